@@ -1,0 +1,126 @@
+-- The cases of a refusal, as the reader meets them.
+use Prim.Native.Nat.{ℕ, zero, suc, _+_, _-_, _≤_, _<_}
+use native.Mathlib.Omega.{arith}
+use mathlib.Core.Path.{_≡_, refl, sym, ap, _∙_}
+use mathlib.Core.Bool.{Bool, true, false}
+use mathlib.Core.List.{List, [], _∷_}
+use native.Mathlib.Nat.{add-zero, sub-zero}
+use lib.ListN.{length, getD, take, drop, length-drop, drop-of-length-le}
+use lib.Seq.{drop-cons}
+use lib.Dec.{ltb, leb, eqb}
+use borrow.Author.Tests.{lt-ltb, le-ltb, le-leb, lt-leb, eq-eqb, ne-eqb}
+use Rattle.image.specs.Bytes.{get32}
+use Rattle.image.specs.Limits.{pick, allowed}
+use Rattle.image.specs.Automaton.{Scan, scan}
+use Rattle.image.specs.Steps.{refusal, refusalOf, spanRefusal, stepOf, spanStep, nameStep, push}
+use Rattle.image.specs.declared.reader.Refusal.{Refusal}
+use Rattle.image.specs.declared.reader.Frame.{Frame}
+use Rattle.image.specs.declared.reader.Push.{Push}
+use Rattle.image.specs.declared.reader.Step.{Step}
+
+module _ (b : List ℕ) (p : ℕ) where
+  pub span-cut : length b - p < 8 → refusal 5 (length b) ≡ spanRefusal b p
+  unfolding spanRefusal
+  span-cut h = rw (lt-ltb (length b) (p + 8) (omega arith))
+
+  pub span-wrong : p ≤ length b → 8 ≤ length b - p → {a e : ℕ} → a ≡ get32 b (p + 4) → e ≡ get32 b p → a < e → refusal 8 p ≡ spanRefusal b p
+  unfolding spanRefusal
+  span-wrong hp h q r l = rw (le-ltb (length b) (p + 8) (omega arith), ← q, ← r, lt-ltb _ _ l)
+
+  pub span-fine : p ≤ length b → 8 ≤ length b - p → {a e : ℕ} → a ≡ get32 b (p + 4) → e ≡ get32 b p → e ≤ a → refusal 0 0 ≡ spanRefusal b p
+  unfolding spanRefusal
+  span-fine hp h q r l = rw (le-ltb (length b) (p + 8) (omega arith), ← q, ← r, le-ltb _ _ l)
+
+pub fair-number : (x : ℕ) → 48 ≤ x → leb x 57 ≡ allowed true x
+unfolding allowed
+fair-number x h = rw (le-leb 48 x h)
+
+pub fair-name : (x : ℕ) → 33 ≤ x → leb x 126 ≡ allowed false x
+unfolding allowed
+fair-name x h = rw (le-leb 33 x h)
+
+pub low-number : (x : ℕ) → x < 48 → false ≡ allowed true x
+unfolding allowed
+low-number x h = rw (lt-leb 48 x h)
+
+pub low-name : (x : ℕ) → x < 33 → false ≡ allowed false x
+unfolding allowed
+low-name x h = rw (lt-leb 33 x h)
+
+-- the scan of n bytes from p on, when i of them are passed
+module _ (b : List ℕ) (p n : ℕ) (g : Bool) where
+  pub record Passed (i : ℕ) : Type 0 where
+    pub is : scan g n (drop p b) ≡ scan g (n - i) (drop (p + i) b)
+
+  pub scan-start : Passed 0
+  scan-start = record { is = rw (sub-zero n, add-zero p) }
+
+  module _ (i : ℕ) (l : i < n) where
+    one-left : n - i ≡ suc (n - (i + 1))
+    one-left = omega arith
+
+    pub scan-cut : length b - p ≤ i → Passed i → refusal 5 (length b) ≡ refusalOf (length b) (scan g n (drop p b))
+    unfolding scan refusalOf
+    scan-cut h e = rw (e .is, one-left, drop-of-length-le b {i = p + i} (omega arith), sub-zero (length b))
+
+    scan-step : p + i < length b → scan g (n - i) (drop (p + i) b) ≡ pick (allowed g (getD b (p + i) 0)) (scan g (n - (i + 1)) (drop (p + (i + 1)) b)) (Scan.refuse 6 (length b - (p + i)))
+    unfolding scan
+    scan-step h =
+        let q : p + (i + 1) ≡ suc (p + i) = omega arith in
+        let r : suc (length (drop (suc (p + i)) b)) ≡ length b - (p + i) = omega (arith, length-drop (suc (p + i)) b) in
+        rw (one-left, drop-cons b (p + i) 0 h, r, q)
+
+    pub scan-wrong : p + i < length b → {t : Bool} → t ≡ allowed g (getD b (p + i) 0) → t ≡ false → Passed i → refusal 6 (p + i) ≡ refusalOf (length b) (scan g n (drop p b))
+    unfolding refusalOf
+    scan-wrong h q z e =
+        let r : length b - (length b - (p + i)) ≡ p + i = omega arith in
+        rw (e .is, scan-step h, ← q, z, r)
+
+    pub scan-more : p + i < length b → {t : Bool} → t ≡ allowed g (getD b (p + i) 0) → t ≡ true → Passed i → Passed (i + 1)
+    scan-more h q z e = record { is = e .is ∙ (scan-step h ∙ rw (← q, z)) }
+
+  pub scan-fine : (i : ℕ) → n ≤ i → Passed i → refusal 0 0 ≡ refusalOf (length b) (scan g n (drop p b))
+  unfolding scan refusalOf
+  scan-fine i h e =
+      let q : n - i ≡ 0 = omega arith in
+      rw (e .is, q)
+
+-- a step after a check: with no refusal it goes on
+pub step-on : (f : Refusal) (g : Push) {r : Step} → f .number ≡ 0 → r ≡ Step.Go g → r ≡ stepOf f g
+unfolding stepOf
+step-on f g h e = rw (e, eq-eqb (f .number) 0 h)
+
+pub step-off : (f : Refusal) (g : Push) → (f .number ≡ 0 → ⊥) → Step.Refuse f ≡ stepOf f g
+unfolding stepOf
+step-off f g h = rw (ne-eqb (f .number) 0 h)
+
+module _ (b : List ℕ) (p n : ℕ) (e0 e1 e2 e3 : Frame) where
+  pub span-on : {f : Refusal} {r : Step} → f ≡ spanRefusal b (p + 1) → f .number ≡ 0 → r ≡ Step.Go (push (p + 9) n e0 e1 e2 e3) → r ≡ spanStep b p n e0 e1 e2 e3
+  unfolding spanStep
+  span-on {f} q h e = step-on f (push (p + 9) n e0 e1 e2 e3) h e ∙ ap (λ (g : Refusal). stepOf g (push (p + 9) n e0 e1 e2 e3)) q
+
+  pub span-off : {f : Refusal} → f ≡ spanRefusal b (p + 1) → (f .number ≡ 0 → ⊥) → Step.Refuse f ≡ spanStep b p n e0 e1 e2 e3
+  unfolding spanStep
+  span-off {f} q h = step-off f (push (p + 9) n e0 e1 e2 e3) h ∙ ap (λ (g : Refusal). stepOf g (push (p + 9) n e0 e1 e2 e3)) q
+
+module _ (b : List ℕ) (p : ℕ) (g : Bool) (n : ℕ) (e0 : Frame) where
+  pub name-none : {r : Step} → getD b p 0 ≡ 0 → r ≡ Step.Refuse (refusal 6 p) → r ≡ nameStep b p g n e0
+  unfolding nameStep
+  name-none h e = rw (e, le-ltb 0 (getD b p 0) (omega arith))
+
+  pub name-long : {r : Step} → (getD b p 0 ≡ 0 → ⊥) → 63 < getD b p 0 → r ≡ Step.Refuse (refusal 6 p) → r ≡ nameStep b p g n e0
+  unfolding nameStep
+  name-long z h e = rw (e, lt-ltb 0 (getD b p 0) (omega arith), lt-leb (getD b p 0) 63 h)
+
+  pub name-on : {f : Refusal} {r : Step} → (getD b p 0 ≡ 0 → ⊥) → getD b p 0 ≤ 63 → f ≡ refusalOf (length b) (scan g (getD b p 0) (drop (p + 1) b)) → f .number ≡ 0
+      → r ≡ Step.Go (push (p + 1 + getD b p 0) n e0 e0 e0 e0) → r ≡ nameStep b p g n e0
+  unfolding nameStep
+  name-on {f} z l q h e =
+      step-on f (push (p + 1 + getD b p 0) n e0 e0 e0 e0) h e
+      ∙ rw (lt-ltb 0 (getD b p 0) (omega arith), le-leb (getD b p 0) 63 l, q)
+
+  pub name-off : {f : Refusal} → (getD b p 0 ≡ 0 → ⊥) → getD b p 0 ≤ 63 → f ≡ refusalOf (length b) (scan g (getD b p 0) (drop (p + 1) b)) → (f .number ≡ 0 → ⊥) → Step.Refuse f ≡ nameStep b p g n e0
+  unfolding nameStep
+  name-off {f} z l q h =
+      step-off f (push (p + 1 + getD b p 0) n e0 e0 e0 e0) h
+      ∙ rw (lt-ltb 0 (getD b p 0) (omega arith), le-leb (getD b p 0) 63 l, q)

@@ -1,0 +1,703 @@
+// Checks a whole image in one pass: what is still to come lies on a small stack, and the first refusal met is the answer.
+use crate::number::read16;
+use crate::number::read32;
+ghost use mathlib.Core.Path.{_≡_};
+ghost use Prim.Native.Nat.{ℕ, _+_, _-_, _<_, _≤_};
+ghost use lib.ListN.{length, getD, drop};
+ghost use Rattle.image.specs.Limits.{allowed};
+ghost use Rattle.image.specs.Automaton.{scan, run, Stack};
+ghost use Rattle.image.specs.Decode.{decode, decodeSized};
+ghost use Rattle.image.specs.Steps.{refusal, refusalOf, spanRefusal, frame, push, spanStep, nameStep, barredAs, DoesAt, Does, TermsKind, bottom as bottomOf, bottomAfter};
+ghost use Rattle.image.specs.Tally.{checkedOf, tallyOf, unpacked, topOf, Stored, TurnDoes, functionOne, sentenceOne, bottomNext, firstNext};
+
+// A refusal and its place; number 0 is none.
+pub struct Refusal {
+    pub number: u8,
+    pub place: usize,
+}
+
+// What is wrong with the span at p.
+fn span_refusal(b: &[u8], p: usize) -> Refusal
+    requires { ⌜ p ≤ length (now b) ⌝ }
+    ensures { λ r. ⌜ r ≡ spanRefusal (now (b .entry)) p ⌝ }
+{
+    if b.len() - p < 8 {
+        return Refusal {
+            number: 5,
+            place: b.len(),
+        };
+    }
+    if read32(b, p + 4) < read32(b, p) {
+        return Refusal {
+            number: 8,
+            place: p,
+        };
+    }
+    Refusal {
+        number: 0,
+        place: 0,
+    }
+}
+
+// A byte that a name allows, or that a number does.
+fn is_allowed(number: bool, x: u8) -> bool
+    ensures { λ r. ⌜ r ≡ allowed number x ⌝ }
+{
+    if number {
+        if x < 48 {
+            return false;
+        }
+        x <= 57
+    } else {
+        if x < 33 {
+            return false;
+        }
+        x <= 126
+    }
+}
+
+// The first of n bytes from p on that no name allows, or the end where they run past it.
+fn scan_refusal(b: &[u8], p: usize, n: usize, number: bool) -> Refusal
+    requires { ⌜ (p ≤ length (now b)) × (n < 256) ⌝ }
+    ensures { λ r. ⌜ r ≡ refusalOf (length (now (b .entry))) (scan number n (drop p (now (b .entry)))) ⌝ }
+{
+    let mut i = 0;
+    while i < n {
+        if b.len() - p <= i {
+            return Refusal {
+                number: 5,
+                place: b.len(),
+            };
+        }
+        if !is_allowed(number, b[p + i]) {
+            return Refusal {
+                number: 6,
+                place: p + i,
+            };
+        }
+        i += 1;
+    }
+    Refusal {
+        number: 0,
+        place: 0,
+    }
+}
+
+// A frame of the reader's stack: its kind, and a depth or a count.
+pub struct Frame {
+    pub kind: u8,
+    pub arg: u8,
+}
+
+// What a turn of the reader leads to: the next place, and n frames that take the place of the one on top, e0 deepest.
+pub struct Push {
+    pub to: usize,
+    pub n: usize,
+    pub e0: Frame,
+    pub e1: Frame,
+    pub e2: Frame,
+    pub e3: Frame,
+}
+
+pub enum Step {
+    Refuse(Refusal),
+    Go(Push),
+}
+
+// The kinds of frames: what is to come.
+const RESULT: u8 = 2;
+
+const PATTERN: u8 = 3;
+
+const CONDITIONS: u8 = 4;
+
+const SENTENCES: u8 = 5;
+
+const NAME: u8 = 6;
+
+const NUMBER: u8 = 7;
+
+const NAMES: u8 = 8;
+
+const CODE: u8 = 9;
+
+const VISIBILITY: u8 = 10;
+
+const COUNTED: u8 = 11;
+
+fn refuse(number: u8, place: usize) -> Step
+    ensures { λ r. ⌜ r ≡ Step.Refuse (refusal number place) ⌝ }
+{
+    Step::Refuse(Refusal { number, place })
+}
+
+fn go(to: usize, n: usize, e0: Frame, e1: Frame, e2: Frame, e3: Frame) -> Step
+    ensures { λ r. ⌜ r ≡ Step.Go (push to n e0 e1 e2 e3) ⌝ }
+{
+    Step::Go(Push {
+        to,
+        n,
+        e0,
+        e1,
+        e2,
+        e3,
+    })
+}
+
+// After the mark at p: its span, then the frames.
+fn spanned(b: &[u8], p: usize, n: usize, e0: Frame, e1: Frame, e2: Frame, e3: Frame) -> Step
+    requires { ⌜ p < length (now b) ⌝ }
+    ensures { λ r. ⌜ r ≡ spanStep (now (b .entry)) p n e0 e1 e2 e3 ⌝ }
+{
+    let f = span_refusal(b, p + 1);
+    if f.number == 0 {
+        go(p + 9, n, e0, e1, e2, e3)
+    } else {
+        Step::Refuse(f)
+    }
+}
+
+// The name at p, then the frames.
+fn named(b: &[u8], p: usize, number: bool, n: usize, e0: Frame) -> Step
+    requires { ⌜ p < length (now b) ⌝ }
+    ensures { λ r. ⌜ r ≡ nameStep (now (b .entry)) p number n e0 ⌝ }
+{
+    let k = b[p];
+    if k == 0 {
+        return refuse(6, p);
+    }
+    if 63 < k {
+        return refuse(6, p);
+    }
+    let len = k as usize;
+    let f = scan_refusal(b, p + 1, len, number);
+    if f.number == 0 {
+        go(p + 1 + len, n, e0, e0, e0, e0)
+    } else {
+        Step::Refuse(f)
+    }
+}
+
+// The refusal that a call or a block meets where it stands, 0 for none: in a pattern, then too deep.
+fn barred(kind: u8, d: u8) -> u8
+    ensures { λ r. ⌜ r ≡ barredAs kind d ⌝ }
+{
+    if kind == PATTERN {
+        return 9;
+    }
+    if d < 32 { 0 } else { 10 }
+}
+
+// A turn at terms.
+fn turn_terms(b: &[u8], p: usize, kind: u8, d: u8) -> Step
+    requires { ⌜ (p < length (now b)) × TermsKind kind ⌝ }
+    ensures { λ r. ⌜ Does (now (b .entry)) p (frame kind d) r ⌝ }
+{
+    let t = Frame { kind, arg: d };
+    let m = b[p];
+    match m {
+        1 => spanned(b, p, 2, t, Frame { kind: CODE, arg: 0 }, t, t),
+        2 => spanned(b, p, 2, t, Frame { kind: NAME, arg: 0 }, t, t),
+        3 => spanned(
+            b,
+            p,
+            2,
+            t,
+            Frame {
+                kind: NUMBER,
+                arg: 0,
+            },
+            t,
+            t,
+        ),
+        4 => spanned(b, p, 2, t, Frame { kind: NAME, arg: 0 }, t, t),
+        5 => spanned(b, p, 2, t, Frame { kind: NAME, arg: 0 }, t, t),
+        6 => spanned(b, p, 2, t, Frame { kind: NAME, arg: 0 }, t, t),
+        7 => {
+            if d < 32 {
+                spanned(b, p, 2, t, Frame { kind, arg: d + 1 }, t, t)
+            } else {
+                refuse(10, p)
+            }
+        }
+        8 => {
+            let n = barred(kind, d);
+            if n == 0 {
+                spanned(
+                    b,
+                    p,
+                    3,
+                    t,
+                    Frame { kind, arg: d + 1 },
+                    Frame { kind: NAME, arg: 0 },
+                    t,
+                )
+            } else {
+                refuse(n, p)
+            }
+        }
+        9 => {
+            let n = barred(kind, d);
+            if n == 0 {
+                spanned(
+                    b,
+                    p,
+                    3,
+                    t,
+                    Frame {
+                        kind: SENTENCES,
+                        arg: d + 1,
+                    },
+                    Frame { kind, arg: d + 1 },
+                    t,
+                )
+            } else {
+                refuse(n, p)
+            }
+        }
+        15 => go(p + 1, 0, t, t, t, t),
+        _ => refuse(5, p),
+    }
+}
+
+// A turn at a sentence's conditions and result.
+fn turn_conditions(b: &[u8], p: usize, d: u8) -> Step
+    requires { ⌜ p < length (now b) ⌝ }
+    ensures { λ r. ⌜ Does (now (b .entry)) p (frame 4 d) r ⌝ }
+{
+    let c = Frame {
+        kind: CONDITIONS,
+        arg: d,
+    };
+    let t = Frame {
+        kind: RESULT,
+        arg: d,
+    };
+    let m = b[p];
+    match m {
+        11 => spanned(
+            b,
+            p,
+            3,
+            c,
+            Frame {
+                kind: PATTERN,
+                arg: d,
+            },
+            t,
+            t,
+        ),
+        12 => go(p + 1, 1, t, t, t, t),
+        _ => refuse(5, p),
+    }
+}
+
+// A turn at sentences.
+fn turn_sentences(b: &[u8], p: usize, d: u8) -> Step
+    requires { ⌜ p < length (now b) ⌝ }
+    ensures { λ r. ⌜ Does (now (b .entry)) p (frame 5 d) r ⌝ }
+{
+    let s = Frame {
+        kind: SENTENCES,
+        arg: d,
+    };
+    let m = b[p];
+    match m {
+        10 => spanned(
+            b,
+            p,
+            3,
+            s,
+            Frame {
+                kind: CONDITIONS,
+                arg: d,
+            },
+            Frame {
+                kind: PATTERN,
+                arg: d,
+            },
+            s,
+        ),
+        15 => go(p + 1, 0, s, s, s, s),
+        _ => refuse(5, p),
+    }
+}
+
+// A turn below all frames: where declarations and functions stand, or functions only.
+fn turn_bottom(b: &[u8], p: usize, bottom: u8) -> Step
+    requires { ⌜ p < length (now b) ⌝ }
+    ensures { λ r. ⌜ DoesAt (now (b .entry)) p (bottomOf bottom) (bottomOf (bottomAfter (getD (now (b .entry)) p 0) bottom)) r ⌝ }
+{
+    let z = Frame { kind: 0, arg: 0 };
+    let s = Frame {
+        kind: SENTENCES,
+        arg: 0,
+    };
+    let n = Frame { kind: NAME, arg: 0 };
+    let e = Frame {
+        kind: VISIBILITY,
+        arg: 0,
+    };
+    let m = b[p];
+    if bottom == 0 {
+        match m {
+            17 => spanned(
+                b,
+                p,
+                1,
+                Frame {
+                    kind: COUNTED,
+                    arg: 0,
+                },
+                z,
+                z,
+                z,
+            ),
+            18 => spanned(b, p, 3, s, n, e, z),
+            _ => refuse(5, p),
+        }
+    } else if m == 18 {
+        spanned(b, p, 3, s, n, e, z)
+    } else {
+        refuse(5, p)
+    }
+}
+
+// A turn at a character's code.
+fn turn_code(b: &[u8], p: usize) -> Step
+    requires { ⌜ p < length (now b) ⌝ }
+    ensures { λ r. ⌜ ((a : ℕ) → Does (now (b .entry)) p (frame 9 a) r) ⌝ }
+{
+    let z = Frame { kind: 0, arg: 0 };
+    if b.len() - p < 4 {
+        return refuse(5, b.len());
+    }
+    let c = read32(b, p);
+    if c < 55296 {
+        return go(p + 4, 0, z, z, z, z);
+    }
+    if c <= 57343 {
+        return refuse(7, p);
+    }
+    if c <= 1114111 {
+        return go(p + 4, 0, z, z, z, z);
+    }
+    refuse(7, p)
+}
+
+// A turn at a function's visibility.
+fn turn_visibility(b: &[u8], p: usize) -> Step
+    requires { ⌜ p < length (now b) ⌝ }
+    ensures { λ r. ⌜ ((a : ℕ) → Does (now (b .entry)) p (frame 10 a) r) ⌝ }
+{
+    let z = Frame { kind: 0, arg: 0 };
+    let m = b[p];
+    if m < 2 {
+        go(p + 1, 0, z, z, z, z)
+    } else {
+        refuse(5, p)
+    }
+}
+
+// A turn at a declaration's count.
+fn turn_counted(b: &[u8], p: usize) -> Step
+    requires { ⌜ p < length (now b) ⌝ }
+    ensures { λ r. ⌜ ((a : ℕ) → Does (now (b .entry)) p (frame 11 a) r) ⌝ }
+{
+    let z = Frame { kind: 0, arg: 0 };
+    let m = b[p];
+    if m == 0 {
+        go(p + 1, 0, z, z, z, z)
+    } else {
+        let s = Frame {
+            kind: NAMES,
+            arg: m - 1,
+        };
+        go(p + 1, 1, s, s, s, s)
+    }
+}
+
+// A turn at a declaration's names.
+fn turn_names(b: &[u8], p: usize, n: u8) -> Step
+    requires { ⌜ p < length (now b) ⌝ }
+    ensures { λ r. ⌜ Does (now (b .entry)) p (frame 8 n) r ⌝ }
+{
+    if n == 0 {
+        named(b, p, false, 0, Frame { kind: 0, arg: 0 })
+    } else {
+        named(
+            b,
+            p,
+            false,
+            1,
+            Frame {
+                kind: NAMES,
+                arg: n - 1,
+            },
+        )
+    }
+}
+
+// A turn at a frame.
+fn turn_frame(b: &[u8], p: usize, e: Frame) -> Step
+    requires { ⌜ p < length (now b) ⌝ }
+    ensures { λ r. ⌜ Does (now (b .entry)) p e r ⌝ }
+{
+    let k = e.kind;
+    let a = e.arg;
+    match k {
+        2 => turn_terms(b, p, k, a),
+        3 => turn_terms(b, p, k, a),
+        4 => turn_conditions(b, p, a),
+        5 => turn_sentences(b, p, a),
+        6 => named(b, p, false, 0, e),
+        7 => named(b, p, true, 0, e),
+        8 => turn_names(b, p, a),
+        9 => turn_code(b, p),
+        10 => turn_visibility(b, p),
+        _ => turn_counted(b, p),
+    }
+}
+
+// A turn with n frames on the bottom, e on top.
+fn turn(b: &[u8], p: usize, bottom: u8, n: usize, e: Frame) -> Step
+    requires { ⌜ p < length (now b) ⌝ }
+    ensures { λ r. ⌜ TurnDoes (now (b .entry)) p bottom n e r ⌝ }
+{
+    if n == 0 {
+        turn_bottom(b, p, bottom)
+    } else {
+        turn_frame(b, p, e)
+    }
+}
+
+fn pack(e: Frame) -> u16
+    ensures { λ r. ⌜ unpacked r ≡ e ⌝ }
+{
+    let k = e.kind;
+    let a = e.arg;
+    (k as u16) * 256 + (a as u16)
+}
+
+fn unpack(c: u16) -> Frame
+    ensures { λ r. ⌜ r ≡ unpacked c ⌝ }
+{
+    Frame {
+        kind: (c / 256) as u8,
+        arg: (c % 256) as u8,
+    }
+}
+
+// The frame on top of n.
+fn top_of(s: &[u16], n: usize) -> Frame
+    requires { ⌜ n ≤ length (now s) ⌝ }
+    ensures { λ r. ⌜ r ≡ topOf (now (s .entry)) n ⌝ }
+{
+    if n == 0 {
+        Frame { kind: 0, arg: 0 }
+    } else {
+        unpack(s[n - 1])
+    }
+}
+
+// Stores the frames of g, from i on.
+fn store(s: &mut [u16], i: usize, g: Push)
+    requires { ⌜ i + 4 ≤ length (now s) ⌝ }
+    ensures { λ _. ⌜ Stored (now (s .entry)) i g (now (s .exit)) ⌝ }
+{
+    s[i] = pack(g.e0);
+    s[i + 1] = pack(g.e1);
+    s[i + 2] = pack(g.e2);
+    s[i + 3] = pack(g.e3);
+}
+
+fn below(n: usize) -> usize
+    ensures { λ r. ⌜ r ≡ n - 1 ⌝ }
+{
+    if n == 0 { 0 } else { n - 1 }
+}
+
+fn function_one(n: usize, m: u8) -> usize
+    ensures { λ r. ⌜ r ≡ functionOne n m ⌝ }
+{
+    if n == 0 {
+        if m == 18 { 1 } else { 0 }
+    } else {
+        0
+    }
+}
+
+fn sentence_one(n: usize, e: Frame, m: u8) -> usize
+    ensures { λ r. ⌜ r ≡ sentenceOne n e m ⌝ }
+{
+    if n == 0 {
+        return 0;
+    }
+    if e.kind == 5 {
+        if e.arg == 0 {
+            if m == 10 {
+                return 1;
+            }
+        }
+    }
+    0
+}
+
+fn bottom_next(n: usize, m: u8, k: u8) -> u8
+    ensures { λ r. ⌜ r ≡ bottomNext n m k ⌝ }
+{
+    if n == 0 {
+        if m == 18 { 1 } else { k }
+    } else {
+        k
+    }
+}
+
+fn first_next(n: usize, m: u8, k: u8, left: usize, f: usize) -> usize
+    ensures { λ r. ⌜ r ≡ firstNext n m k left f ⌝ }
+{
+    if n == 0 {
+        if k == 0 {
+            if m == 18 { left } else { f }
+        } else {
+            f
+        }
+    } else {
+        f
+    }
+}
+
+// What the trailer has to agree with.
+pub struct Counts {
+    pub functions: usize,
+    pub sentences: usize,
+    pub first: usize,
+}
+
+pub enum Tally {
+    Refused(Refusal),
+    Counted(Counts),
+}
+
+// Reads a whole body: the first refusal, or the counts.
+pub fn check_body(b: &[u8]) -> Tally
+    ensures { λ r. ⌜ r ≡ tallyOf (length (now (b .entry))) (run Stack.body 0 (now (b .entry))) ⌝ }
+{
+    let mut stack = [0u16; 148];
+    let mut top: usize = 0;
+    let mut bottom: u8 = 0;
+    let mut at: usize = 0;
+    let mut functions: usize = 0;
+    let mut sentences: usize = 0;
+    let mut first: usize = 0;
+    while at < b.len() {
+        let m = b[at];
+        let e = top_of(&stack, top);
+        let r = turn(b, at, bottom, top, e);
+        match r {
+            Step::Refuse(f) => {
+                return Tally::Refused(f);
+            }
+            Step::Go(g) => {
+                store(&mut stack, below(top), g);
+                first = first_next(top, m, bottom, b.len() - at, first);
+                functions += function_one(top, m);
+                sentences += sentence_one(top, e, m);
+                bottom = bottom_next(top, m, bottom);
+                top = below(top) + g.n;
+                at = g.to;
+            }
+        }
+    }
+    if top == 0 {
+        if bottom == 0 {
+            Tally::Counted(Counts {
+                functions,
+                sentences,
+                first: 0,
+            })
+        } else {
+            Tally::Counted(Counts {
+                functions,
+                sentences,
+                first,
+            })
+        }
+    } else {
+        Tally::Refused(Refusal {
+            number: 5,
+            place: b.len(),
+        })
+    }
+}
+
+pub enum Checked {
+    Refused(Refusal),
+    Accepted,
+}
+
+// Refusals 4 to 11 of an image whose size is right.
+pub fn check_sized(img: &[u8]) -> Checked
+    requires { ⌜ (12 ≤ length (now img)) × (length (now img) ≤ 32768) ⌝ }
+    ensures { λ r. ⌜ r ≡ checkedOf (decodeSized (now (img .entry))) ⌝ }
+{
+    let n = img.len() - 12;
+    let to_body = read32(img, n) as usize;
+    let to_functions = read32(img, n + 4) as usize;
+    if to_body != n {
+        return Checked::Refused(Refusal {
+            number: 4,
+            place: 0,
+        });
+    }
+    if to_body < to_functions {
+        return Checked::Refused(Refusal {
+            number: 4,
+            place: 0,
+        });
+    }
+    let t = check_body(&img[..n]);
+    match t {
+        Tally::Refused(f) => Checked::Refused(f),
+        Tally::Counted(c) => {
+            if c.first != to_functions {
+                return Checked::Refused(Refusal {
+                    number: 11,
+                    place: 0,
+                });
+            }
+            if c.functions != read16(img, n + 8) as usize {
+                return Checked::Refused(Refusal {
+                    number: 11,
+                    place: 0,
+                });
+            }
+            if c.sentences != read16(img, n + 10) as usize {
+                return Checked::Refused(Refusal {
+                    number: 11,
+                    place: 0,
+                });
+            }
+            Checked::Accepted
+        }
+    }
+}
+
+// Every refusal that an image by itself can meet.
+pub fn check(img: &[u8]) -> Checked
+    ensures { λ r. ⌜ r ≡ checkedOf (decode (now (img .entry))) ⌝ }
+{
+    if img.len() < 12 {
+        return Checked::Refused(Refusal {
+            number: 1,
+            place: 0,
+        });
+    }
+    if 32768 < img.len() {
+        return Checked::Refused(Refusal {
+            number: 1,
+            place: 0,
+        });
+    }
+    check_sized(img)
+}

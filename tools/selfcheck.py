@@ -1,0 +1,290 @@
+"""Checks the tools themselves: reader and encoder, generator, oracle, image corpus.
+
+    python3 tools/selfcheck.py [ORACLE]
+
+ORACLE is the driver that tools/oracle/build.sh built (default target/oracle/oracle);
+without one the checks that need it are left out, and that is said.
+"""
+
+import struct
+import sys
+from collections import Counter
+from pathlib import Path
+
+import generate
+import oracle as asking
+from reader import (
+    Bracket,
+    Call,
+    Character,
+    Function,
+    Identifier,
+    Number,
+    Program,
+    Refusal,
+    Sentence,
+    Variable,
+    encode,
+    read_image,
+)
+
+PROGRAMS = 2000
+
+
+def check(truth, what):
+    if not truth:
+        sys.exit(f"wrong: {what}")
+
+
+# ------------------------------------------------------- reader and generator
+
+
+def check_round_trips():
+    for seed in range(PROGRAMS):
+        program = generate.good(seed)
+        image = encode(program)
+        check(read_image(image) == program, f"good program {seed} is read as it was made")
+        check(encode(read_image(image)) == image, f"good program {seed} is encoded alike")
+    print(f"{PROGRAMS} good programs accepted and encoded to the same bytes")
+
+
+def check_typical_sizes():
+    for size in [*range(25, 300), 8192, 32767, 32768]:
+        program = generate.typical(size, size)
+        image = encode(program)
+        check(len(image) == size, f"typical program fills {size} bytes")
+        check(read_image(image) == program, f"typical program of {size} bytes is accepted")
+    print("typical programs of 278 sizes fill them and are accepted")
+
+
+def check_damage():
+    answers = Counter()
+    for seed in range(PROGRAMS):
+        answer = read_image(generate.damaged(encode(generate.good(seed)), seed))
+        answers[answer.number if isinstance(answer, Refusal) else 0] += 1
+    check(set(answers) >= {0, 1, 4, 5, 6, 7, 8, 9, 11}, "damage meets the usual refusals")
+    print(f"{PROGRAMS} damaged images by answer: {dict(sorted(answers.items()))}")
+
+
+# --------------------------------------------------------- refusals by hand
+
+SPAN = "00000000 00000000 "
+BAD_SPAN = "01000000 00000000 "
+FUNCTION = "12 " + SPAN + "00 01 46 "  # F, Local; its sentences begin at 12
+SENTENCE = "0a " + SPAN  # its pattern begins 9 bytes on
+EMPTY = SENTENCE + "0f 0c 0f "
+
+# Bodies spelled out byte by byte, with the answer that document 01 gives them.
+BODIES = (
+    ("", None),
+    (FUNCTION + "0f", None),
+    (FUNCTION + EMPTY + "0f", None),
+    ("11 " + SPAN + "00", None),
+    ("00", (5, 0)),
+    ("0f", (5, 0)),
+    ("12", (5, 1)),
+    ("12 ff ff ff ff 00 00 00", (5, 8)),
+    ("12 " + BAD_SPAN, (8, 1)),
+    ("12 " + SPAN + "02 01 46 0f", (5, 9)),
+    ("12 " + SPAN + "00 00 0f", (6, 10)),
+    ("12 " + SPAN + "00 40", (6, 10)),
+    ("12 " + SPAN + "00 01 20 0f", (6, 11)),
+    ("12 " + SPAN + "00 3f 46 7f", (6, 12)),
+    ("12 " + SPAN + "00 3f 46 46", (5, 13)),
+    (FUNCTION + "0f 11 " + SPAN + "00", (5, 13)),
+    (FUNCTION + "0b", (5, 12)),
+    (FUNCTION + SENTENCE + "08", (9, 21)),
+    (FUNCTION + SENTENCE + "09", (9, 21)),
+    (FUNCTION + SENTENCE + "0a", (5, 21)),
+    (FUNCTION + SENTENCE + "0f 0f", (5, 22)),
+    (FUNCTION + SENTENCE + "0f 0b " + SPAN + "0f 08", (9, 32)),
+    (FUNCTION + SENTENCE + "0f 0b " + SPAN + "08 " + BAD_SPAN, (8, 32)),
+    (FUNCTION + SENTENCE + "01 " + SPAN + "00 d8 00", (5, 33)),
+    (FUNCTION + SENTENCE + "01 " + SPAN + "00 d8 00 00", (7, 30)),
+    (FUNCTION + SENTENCE + "03 " + SPAN + "02 31 3a", (6, 32)),
+    (FUNCTION + SENTENCE + ("07 " + SPAN) * 32 + "0f " * 33 + "0c 0f 0f", None),
+    (FUNCTION + SENTENCE + ("07 " + SPAN) * 32 + "07", (10, 21 + 32 * 9)),
+    (FUNCTION + SENTENCE + ("07 " + SPAN) * 32 + "08", (9, 21 + 32 * 9)),
+    (FUNCTION + SENTENCE + ("07 " + SPAN) * 32 + "06", (5, 22 + 32 * 9)),
+    (FUNCTION + SENTENCE + "0f 0c " + ("08 " + SPAN + "01 46 ") * 32 + "09", (10, 23 + 32 * 11)),
+)
+
+
+def check_refusals():
+    for text, expected in BODIES:
+        body = bytes.fromhex(text)
+        # Only the accepted ones need a true trailer: each has one function at most.
+        functions = int(text.startswith(FUNCTION))
+        trailer = (len(body), len(body) * functions, functions, text.count(SENTENCE))
+        answer = read_image(body + struct.pack("<IIHH", *trailer))
+        if expected is None:
+            check(isinstance(answer, Program), f"accepted: {text}")
+        else:
+            check(answer == Refusal(*expected), f"{expected}, not {answer}: {text}")
+    print(f"{len(BODIES)} bodies written by hand answered as document 01 says")
+
+
+def check_trailers():
+    body = bytes.fromhex(FUNCTION + EMPTY + "0f")
+    check(read_image(b"") == Refusal(1, 0), "no bytes")
+    check(read_image(bytes(11)) == Refusal(1, 0), "11 bytes")
+    check(read_image(bytes(12)) == Program(), "12 zeros")
+    check(read_image(bytes(32769)) == Refusal(1, 0), "32,769 bytes")
+    trailers = (
+        ((25, 25, 1, 1), None),
+        ((24, 24, 1, 1), Refusal(4, 0)),
+        ((25, 26, 1, 1), Refusal(4, 0)),
+        ((25, 24, 1, 1), Refusal(11, 0)),
+        ((25, 0, 1, 1), Refusal(11, 0)),
+        ((25, 25, 0, 1), Refusal(11, 0)),
+        ((25, 25, 1, 2), Refusal(11, 0)),
+    )
+    for fields, expected in trailers:
+        answer = read_image(body + struct.pack("<IIHH", *fields))
+        found = answer if isinstance(answer, Refusal) else None
+        check(found == expected, f"trailer {fields}")
+    print("sizes and trailers answered as document 01 says")
+
+
+# -------------------------------------------------------------------- corpus
+
+
+def check_corpus_file(path):
+    """Replays a written corpus, so that its format has a second reader too."""
+    data = path.read_bytes()
+    place, image, records = 0, b"", 0
+    while place < len(data):
+        length, position, value, number, at = struct.unpack_from("<HHBBH", data, place)
+        place += 8
+        if length:
+            image = data[place : place + length]
+            place += length
+        question = bytearray(image)
+        if position < len(question):
+            question[position] = value
+        answer = read_image(bytes(question))
+        found = tuple(answer) if isinstance(answer, Refusal) else (0, 0)
+        check(found == (number, at), f"record {records} of {path.name}")
+        records += 1
+    print(f"{records} records of {path.name} answered as written")
+
+
+# -------------------------------------------------------------------- oracle
+
+
+def variable(text):
+    kind, name = text.split(".")
+    return Variable(kind, name.encode())
+
+
+def characters(text):
+    return [Character(ord(character)) for character in text]
+
+
+def worked_example():
+    """$ENTRY Go { e.X = <F 'A' e.X>; } and F { 'A' e.Y = e.Y; (e.Z) = 'B'; }"""
+    call = Call(b"F", [*characters("A"), variable("e.X")])
+    go = Function(b"Go", [Sentence([variable("e.X")], [], [call])], entry=True)
+    first = Sentence([*characters("A"), variable("e.Y")], [], [variable("e.Y")])
+    second = Sentence([Bracket([variable("e.Z")])], [], characters("B"))
+    return Program([], [go, Function(b"F", [first, second])])
+
+
+WORKED_REPORT = b"""functions: 2
+sentences: 3 -> 2
+rounds: 2
+removed: 1
+  F {(e.Z)} rejected by <'A' e.X>
+undecided: 0
+uncovered: 0
+graph: perfect
+"""
+
+EMPTY_REPORT = b"""functions: 0
+sentences: 0 -> 0
+rounds: 1
+removed: 0
+undecided: 0
+uncovered: 0
+graph: perfect
+"""
+
+THREE = [variable("e.1"), variable("e.2"), variable("e.3"), *characters("B")]
+
+# Cases 1 to 11 of "The overlap verdict", then 26 and 27 characters in case 11.
+CASES = (
+    ([], [], asking.OVERLAP, 1),
+    ([], [variable("e.X")], asking.OVERLAP, 1),
+    ([], [variable("s.X")], asking.DISJOINT, 1),
+    ([variable("s.X")], [Bracket()], asking.DISJOINT, 1),
+    ([variable("t.X")], [Bracket()], asking.OVERLAP, 2),
+    ([variable("s.X"), variable("s.X")], characters("AB"), asking.OVERLAP, 3),
+    ([Number(b"007")], [Number(b"7")], asking.DISJOINT, 1),
+    ([Number(b"1")], characters("1"), asking.DISJOINT, 1),
+    ([Identifier(b"Abc")], [Identifier(b"ABC")], asking.OVERLAP, 2),
+    (characters("a"), characters("A"), asking.DISJOINT, 1),
+    (THREE, characters("A" * 10), asking.DISJOINT, 352),
+    (THREE, characters("A" * 26), asking.DISJOINT, 4032),
+    (THREE, characters("A" * 27), asking.UNKNOWN, 4096),
+)
+
+
+def check_oracle(path):
+    with asking.Oracle(path) as oracle:
+        image = encode(worked_example())
+        cleaned, report = oracle.clean(image)
+        check(report == WORKED_REPORT, "the worked example's report")
+        expected = worked_example()
+        del expected.functions[1].sentences[1]
+        check(cleaned == encode(expected), "the worked example's cleaned image")
+        check(oracle.clean(bytes(12)) == (bytes(12), EMPTY_REPORT), "12 zeros cleaned")
+        for number, (first, second, verdict, spent) in enumerate(CASES, 1):
+            pair = Program([], [Function(b"F", [Sentence(first), Sentence(second)])])
+            answer = oracle.overlap(encode(pair), 0, 1)
+            check(answer == (verdict, spent), f"overlap case {number}: {answer}")
+        print(f"oracle: worked example, 12 zeros and {len(CASES)} overlap cases as in document 01")
+        check_oracle_on_programs(oracle)
+
+
+def check_oracle_on_programs(oracle):
+    """What cleaning must keep, and that the driver's decoder and encoder agree."""
+    shortened = 0
+    for seed in range(PROGRAMS):
+        program = generate.good(seed)
+        image = encode(program)
+        cleaned_image, report = oracle.clean(image)
+        cleaned = read_image(cleaned_image)
+        check(isinstance(cleaned, Program), f"cleaned program {seed} is accepted")
+        check(cleaned.declarations == program.declarations, f"declarations of {seed}")
+        check(heads(cleaned) == heads(program), f"functions of {seed}")
+        if b"removed: 0\n" in report:
+            check(cleaned_image == image, f"program {seed} without removals is unchanged")
+        else:
+            shortened += 1
+    print(f"oracle: {PROGRAMS} good programs cleaned, {shortened} of them shortened")
+
+
+def heads(program):
+    return [(f.name, f.entry, f.span) for f in program.functions]
+
+
+def main():
+    check_round_trips()
+    check_typical_sizes()
+    check_damage()
+    check_refusals()
+    check_trailers()
+    corpus = asking.REPOSITORY / "crates" / "vectors" / "data" / "image"
+    if corpus.exists():
+        check_corpus_file(corpus)
+    else:
+        print("left out: no image corpus is written")
+    path = Path(sys.argv[1]) if len(sys.argv) > 1 else asking.DEFAULT_PROGRAM
+    if path.exists():
+        check_oracle(path)
+    else:
+        print("left out: no oracle is built")
+
+
+if __name__ == "__main__":
+    main()

@@ -16,3 +16,4 @@ pub mod Readings
 pub mod Accepted
 pub mod Finding
 pub mod Examples
+pub mod Own

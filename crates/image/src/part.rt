@@ -187,7 +187,7 @@ pub fn sentence_at(b: &[u8], from: usize, number: usize) -> Found
 // Where the functions begin in the body of an accepted image.
 pub fn functions_start(img: &[u8]) -> usize
     requires { ⌜ Accepted (now img) ⌝ }
-    ensures { λ r. ⌜ ((a : Accepted (now (img .entry))) → drop r (take (bodyLength (now (img .entry))) (now (img .entry))) ≡ putFunctions (a .program .functions)) ⌝ }
+    ensures { λ r. ⌜ (r ≤ bodyLength (now (img .entry))) × ((a : Accepted (now (img .entry))) → drop r (take (bodyLength (now (img .entry))) (now (img .entry))) ≡ putFunctions (a .program .functions)) ⌝ }
 {
     let n = img.len() - 12;
     n - read32(img, n + 4) as usize

@@ -25,7 +25,7 @@ sub-result : tie.Need-sub-result
 sub-result c = omega (arith, c .read32 .ensures, accepted-within (now (c .before .before .args .img)) (bytes-of (now (c .before .before .args .img)) (λ i. omega (arith, c .before .shared-slice-known .given i))) (c .before .before .pre))
 
 returns : tie.Need-returns
-returns c = λ a. rw (c .read32 .ensures) (accepted-functions (now (c .before .before .args .img)) (bytes-of (now (c .before .before .args .img)) (λ i. omega (arith, c .before .shared-slice-known .given i))) a)
+returns c = (omega arith, λ a. rw (c .read32 .ensures) (accepted-functions (now (c .before .before .args .img)) (bytes-of (now (c .before .before .args .img)) (λ i. omega (arith, c .before .shared-slice-known .given i))) a))
 
 pub functions-start-spec : {M : Type 1} → statement M
 functions-start-spec = tie.close (tie.spec sub-n add-read32 read32-requires cast-result sub-result returns)

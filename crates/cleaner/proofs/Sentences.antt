@@ -1,0 +1,134 @@
+-- The sentences that Overlap compares: where they stand in an accepted image, and that their patterns are within the limits.
+use Prim.Native.Nat.{ℕ, _+_, _-_, _≤_}
+use native.Mathlib.Omega.{arith}
+use mathlib.Core.Path.{_≡_, refl, sym, ap, subst, _∙_}
+use mathlib.Core.List.{List, _∷_}
+use lib.ListN.{length, take, drop, length-drop}
+use lib.Seq.{drop-drop}
+use Rattle.image.specs.Syntax.{Terms, Function}
+use Rattle.image.specs.Bytes.{putSpan, put32}
+use Rattle.image.specs.Encode.{putHead, putTerms, putConditions, putFunctions}
+use Rattle.image.specs.Limits.{Mode, ValidFunctions}
+use Rattle.image.specs.Decode.{Answer, decode}
+use Rattle.image.specs.Parts.{TermsAt, Sentence, putSentence, ownSentences, FunctionsAt, Stands, FoundIn, Accepted}
+use Rattle.image.specs.Tally.{checkedOf}
+use Rattle.image.specs.Steps.{refusal}
+use Rattle.image.specs.declared.part.Found as places
+use Rattle.image.specs.declared.reader.Checked.{Checked}
+use Rattle.image.specs.declared.reader.Refusal.{Refusal}
+use Rattle.image.proofs.Numbers.{Bytes}
+use Rattle.image.proofs.Lengths.{head-length}
+use Rattle.image.proofs.RoundTrip.{encode-decode}
+use Rattle.image.proofs.Own.{element, no-element, own-valid}
+use Rattle.overlap.specs.Search.{patternsOverlap, spent, sequence, start}
+use Rattle.overlap.specs.declared.Found.{Found}
+use Rattle.overlap.proofs.Fuel.{fuel-falls}
+use Rattle.symbols.proofs.Parts.{part-rest}
+use Rattle.cleaner.specs.Parts.{PatternFrom}
+use Rattle.cleaner.specs.Answers.{overlapRefused, comparePatterns, compareFound, compareSentences, overlapOf, overlapAnswer}
+use Rattle.cleaner.specs.declared.OverlapAnswer.{OverlapAnswer}
+
+-- ---- where a sentence stands
+
+head-passed : (x : Sentence) (k : List ℕ) → drop 9 (putSentence x k) ≡ putTerms (x .pattern) (putConditions (x .conditions) (12 ∷ putTerms (x .result) k))
+unfolding putSentence putHead putSpan put32
+head-passed x k = refl
+
+sentence-long : (x : Sentence) (k : List ℕ) → 9 ≤ length (putSentence x k)
+unfolding putSentence
+sentence-long x k = omega (arith, head-length (x .head) (putTerms (x .pattern) (putConditions (x .conditions) (12 ∷ putTerms (x .result) k))))
+
+pub pattern-from : (b : List ℕ) (p n : ℕ) (fs : List Function) → ValidFunctions fs → (h : Stands b p (ownSentences fs) n) → PatternFrom b p
+pattern-from b p n fs v h =
+    let x = h .sentence in
+    record {
+      terms = x .pattern;
+      rest = putConditions (x .conditions) (12 ∷ putTerms (x .result) (h .rest));
+      within = omega (arith, ap length (h .stands), length-drop p b, sentence-long x (h .rest));
+      is = sym (drop-drop 9 p b) ∙ (ap (drop 9) (h .stands) ∙ head-passed x (h .rest));
+      valid = own-valid fs v n x (h .more) (h .is);
+    }
+
+-- ---- the comparison
+
+abbrev pub pattern-part : (b : List ℕ) (p : ℕ) → PatternFrom b p → TermsAt Mode.pattern (take (length b - (p + 9)) (drop (p + 9) b))
+pattern-part b p x = record { terms = x .terms; rest = x .rest; is = part-rest b (p + 9) ∙ x .is; valid = x .valid }
+
+pub compared : (a c : Terms) (f : Found) → f ≡ sequence start a c → OverlapAnswer.Compared (record { verdict = f .verdict; spent = 4096 - f .fuel }) ≡ comparePatterns a c
+unfolding comparePatterns patternsOverlap spent
+compared a c f e = ap (λ (q : Found). OverlapAnswer.Compared (record { verdict = q .verdict; spent = 4096 - q .fuel })) e
+
+pub fuel-left : (a c : Terms) (f : Found) → f ≡ sequence start a c → f .fuel ≤ 4096
+fuel-left a c f e = subst (λ (q : Found). q .fuel ≤ 4096) (sym e) (fuel-falls start a c)
+
+-- ---- an accepted image
+
+pub accepted-of : (s : List ℕ) (v : Checked) → v ≡ checkedOf (decode s) → v ≡ Checked.Accepted → Accepted s
+unfolding checkedOf
+accepted-of s v e q = by (decode s) refl (sym e ∙ q)
+  where
+    by : (a : Answer) → decode s ≡ a → checkedOf a ≡ Checked.Accepted → Accepted s
+    by (Answer.refused n p) u z = absurd (let y : _≡_ {A = ℕ} 0 1 = cc in omega arith)
+    by (Answer.accepted w) u z = record { program = w; is = u }
+
+pub refused-of : (s : List ℕ) (i j : ℕ) (v : Checked) (f : Refusal) → v ≡ checkedOf (decode s) → v ≡ Checked.Refused f → OverlapAnswer.Refused f ≡ overlapAnswer s i j
+unfolding checkedOf overlapAnswer overlapOf
+refused-of s i j v f e q = by (decode s) (sym e ∙ q)
+  where
+    by : (a : Answer) → checkedOf a ≡ Checked.Refused f → OverlapAnswer.Refused f ≡ overlapOf a i j
+    by (Answer.refused n p) z = let u : f ≡ refusal n p = cc in ap OverlapAnswer.Refused u
+    by (Answer.accepted w) z = absurd (let y : _≡_ {A = ℕ} 0 1 = cc in omega arith)
+
+pub answer-accepted : (s : List ℕ) (i j : ℕ) (a : Accepted s) {r : OverlapAnswer} → r ≡ compareSentences (a .program) i j → r ≡ overlapAnswer s i j
+unfolding overlapAnswer overlapOf
+answer-accepted s i j a e = e ∙ sym (rw (a .is))
+
+pub functions-at : (s : List ℕ) (from : ℕ) → Bytes s → (a : Accepted s) → drop from (take (length s - 12) s) ≡ putFunctions (a .program .functions) → FunctionsAt (drop from (take (length s - 12) s))
+functions-at s from bytes a e = record { functions = a .program .functions; is = e; valid = encode-decode s (a .program) bytes (a .is) .1 .0 .1 }
+
+-- What Overlap finds of two numbers in an accepted image s, whose functions begin at `from` of its body.
+module _ (s : List ℕ) (from : ℕ) (i j : ℕ) (bytes : Bytes s)
+    (begins : (a : Accepted s) → drop from (take (length s - 12) s) ≡ putFunctions (a .program .functions)) where
+  pub functions-here : Accepted s → FunctionsAt (drop from (take (length s - 12) s))
+  functions-here a = functions-at s from bytes a (begins a)
+
+  module _ (p q : places.Found) (hp : (h : FunctionsAt (drop from (take (length s - 12) s))) → FoundIn (take (length s - 12) s) (ownSentences (h .functions)) i p)
+      (hq : (h : FunctionsAt (drop from (take (length s - 12) s))) → FoundIn (take (length s - 12) s) (ownSentences (h .functions)) j q) where
+    found-first : (k : ℕ) → p ≡ places.Found.At k → (a : Accepted s) → Stands (take (length s - 12) s) k (ownSentences (a .program .functions)) i
+    unfolding functions-here functions-at
+    found-first k e a = subst (FoundIn (take (length s - 12) s) (ownSentences (a .program .functions)) i) e (hp (functions-here a))
+
+    found-second : (k : ℕ) → q ≡ places.Found.At k → (a : Accepted s) → Stands (take (length s - 12) s) k (ownSentences (a .program .functions)) j
+    unfolding functions-here functions-at
+    found-second k e a = subst (FoundIn (take (length s - 12) s) (ownSentences (a .program .functions)) j) e (hq (functions-here a))
+
+    valid-functions : (a : Accepted s) → ValidFunctions (a .program .functions)
+    valid-functions a = encode-decode s (a .program) bytes (a .is) .1 .0 .1
+
+    pub pattern-first : (k : ℕ) → p ≡ places.Found.At k → Accepted s → PatternFrom (take (length s - 12) s) k
+    pattern-first k e a = pattern-from (take (length s - 12) s) k i (a .program .functions) (valid-functions a) (found-first k e a)
+
+    pub pattern-second : (k : ℕ) → q ≡ places.Found.At k → Accepted s → PatternFrom (take (length s - 12) s) k
+    pattern-second k e a = pattern-from (take (length s - 12) s) k j (a .program .functions) (valid-functions a) (found-second k e a)
+
+    pub none-first : p ≡ places.Found.Nothing → (a : Accepted s) → overlapRefused 13 0 ≡ compareSentences (a .program) i j
+    unfolding compareSentences compareFound functions-here functions-at
+    none-first e a = sym (rw (no-element (ownSentences (a .program .functions)) i (subst (FoundIn (take (length s - 12) s) (ownSentences (a .program .functions)) i) e (hp (functions-here a)))))
+
+    pub none-second : (k : ℕ) → p ≡ places.Found.At k → q ≡ places.Found.Nothing → (a : Accepted s) → overlapRefused 13 0 ≡ compareSentences (a .program) i j
+    unfolding compareSentences compareFound functions-here functions-at
+    none-second k u e a =
+        let x = found-first k u a in
+        sym
+        (rw (
+          element (ownSentences (a .program .functions)) i (x .sentence) (x .more) (x .is),
+          no-element (ownSentences (a .program .functions)) j (subst (FoundIn (take (length s - 12) s) (ownSentences (a .program .functions)) j) e (hq (functions-here a))),
+        ))
+
+    pub both-found : (k l : ℕ) → (u : p ≡ places.Found.At k) (e : q ≡ places.Found.At l) (a : Accepted s) {r : OverlapAnswer}
+        → r ≡ comparePatterns (pattern-first k u a .terms) (pattern-second l e a .terms) → r ≡ compareSentences (a .program) i j
+    unfolding compareSentences compareFound pattern-first pattern-second pattern-from
+    both-found k l u e a z =
+        let x = found-first k u a in
+        let y = found-second l e a in
+        z ∙ sym (rw (element (ownSentences (a .program .functions)) i (x .sentence) (x .more) (x .is), element (ownSentences (a .program .functions)) j (y .sentence) (y .more) (y .is)))

@@ -1,0 +1,10 @@
+pub mod Expression
+pub mod Fresh
+pub mod Plain
+pub mod Search
+pub mod Meet
+pub mod Dry
+pub mod Starved
+pub mod Table
+pub mod Parts
+pub mod Steps

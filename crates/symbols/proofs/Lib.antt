@@ -1,0 +1,5 @@
+pub mod Tests
+pub mod Names
+pub mod Symbols
+pub mod Equal
+pub mod Parts

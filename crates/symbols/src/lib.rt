@@ -1,0 +1,71 @@
+// Equality of names and symbols on an image's own bytes.
+use image::part::name_part;
+ghost use mathlib.Core.Path.{_≡_};
+ghost use Rattle.symbols.specs.Names.{lower, eqBytes, sameName};
+ghost use Rattle.symbols.specs.Symbols.{sameSymbol};
+ghost use Rattle.symbols.specs.Parts.{SymbolAt};
+
+// An ASCII capital's small letter.
+fn small(c: u8) -> u8
+    ensures { λ r. ⌜ r ≡ lower c ⌝ }
+{
+    if 65 <= c {
+        if c <= 90 {
+            return c + 32;
+        }
+    }
+    c
+}
+
+pub fn same_bytes(a: &[u8], b: &[u8]) -> bool
+    ensures { λ r. ⌜ r ≡ eqBytes (now (a .entry)) (now (b .entry)) ⌝ }
+{
+    if a.len() != b.len() {
+        return false;
+    }
+    let mut i = 0;
+    while i < a.len() {
+        if a[i] != b[i] {
+            return false;
+        }
+        i += 1;
+    }
+    true
+}
+
+// The same without regard to ASCII case.
+pub fn same_name(a: &[u8], b: &[u8]) -> bool
+    ensures { λ r. ⌜ r ≡ sameName (now (a .entry)) (now (b .entry)) ⌝ }
+{
+    if a.len() != b.len() {
+        return false;
+    }
+    let mut i = 0;
+    while i < a.len() {
+        if small(a[i]) != small(b[i]) {
+            return false;
+        }
+        i += 1;
+    }
+    true
+}
+
+// Whether two symbols, each at the start of its part of an image, are equal.
+pub fn same_symbol(a: &[u8], b: &[u8]) -> bool
+    requires { ⌜ SymbolAt (now a) × SymbolAt (now b) ⌝ }
+    ensures { λ r. ⌜ ((x : SymbolAt (now (a .entry))) (y : SymbolAt (now (b .entry))) → r ≡ sameSymbol (x .symbol) (y .symbol)) ⌝ }
+{
+    let m = a[0];
+    if m != b[0] {
+        return false;
+    }
+    if m == 1 {
+        return same_bytes(&a[9..13], &b[9..13]);
+    }
+    let x = name_part(&a[9..]);
+    let y = name_part(&b[9..]);
+    if m == 2 {
+        return same_name(x, y);
+    }
+    same_bytes(x, y)
+}

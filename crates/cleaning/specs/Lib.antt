@@ -1,0 +1,4 @@
+pub mod Root
+pub mod Cleaning
+pub mod Text
+pub mod CleanReport

@@ -1,0 +1,4 @@
+pub mod Equality
+pub mod Configuration
+pub mod Vocabulary
+pub mod Examples

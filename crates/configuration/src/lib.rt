@@ -1,0 +1,1 @@
+// Repeats among arguments.

@@ -1,0 +1,4 @@
+pub mod Lists
+pub mod Sites
+pub mod Restrictions
+pub mod Dispatch

@@ -1,0 +1,1 @@
+// Call sites and the restrictions that they put on a function.

@@ -1,0 +1,12 @@
+pub mod Lists
+pub mod Matches
+pub mod Congruence
+pub mod Cleaned
+pub mod Rounds
+pub mod Alike
+pub mod Depth
+pub mod SameRun
+pub mod Machine
+pub mod Pause
+pub mod Computing
+pub mod Examples

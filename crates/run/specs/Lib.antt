@@ -1,0 +1,5 @@
+pub mod Match
+pub mod Spanless
+pub mod Run
+pub mod Cleaned
+pub mod Machine

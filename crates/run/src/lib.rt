@@ -1,0 +1,1 @@
+// The run of a program, and what cleaning keeps of it.

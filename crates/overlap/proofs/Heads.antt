@@ -2,10 +2,9 @@
 use Prim.Native.Nat.{ℕ, suc, _<_, _≤_, zero-le}
 use native.Mathlib.Omega.{arith}
 use mathlib.Core.Path.{_≡_, refl, sym, ap, ap₂, _∙_, subst}
-use mathlib.Core.Bool.{Bool}
 use mathlib.Core.List.{List}
 use lib.ListN.{length, drop, getD}
-use Rattle.image.specs.Syntax.{Symbol, character, identifier, number, s-kind, t-kind, e-kind, Terms, nil, symbol, variable, bracket, call, block}
+use Rattle.image.specs.Syntax.{character, identifier, number, s-kind, t-kind, e-kind, Terms, nil, symbol, variable, bracket, call, block}
 use Rattle.image.specs.Bytes.{put32, putSpan}
 use Rattle.image.specs.Encode.{putTerms}
 use Rattle.image.specs.Limits.{Mode, ValidTerms}
@@ -15,7 +14,6 @@ use Rattle.symbols.specs.Symbols.{sameSymbol}
 use Rattle.symbols.specs.Parts.{SymbolAt}
 use Rattle.symbols.proofs.Parts.{part-rest}
 use Rattle.overlap.specs.declared.Verdict.the-variants.{Disjoint, Overlap}
-use Rattle.overlap.specs.declared.Found.{Found}
 use Rattle.overlap.specs.Search.{One, View, view, literalOverlap, start, overlapOfTerms, sequence}
 use Rattle.overlap.specs.Parts.{HeadAt}
 use Rattle.overlap.proofs.Readings.{part, headMark, viewMark, pattern-mark, term-room}

@@ -1,18 +1,16 @@
 -- Patterns in an image by their first mark, and the pattern after the first term.
-use Prim.Native.Nat.{ℕ, suc, _+_, _-_, _<_, _≤_}
+use Prim.Native.Nat.{ℕ, _+_, _-_, _<_, _≤_}
 use native.Mathlib.Omega.{arith}
-use mathlib.Core.Path.{_≡_, refl, sym, ap, _∙_, subst}
-use mathlib.Core.List.{List, [], _∷_}
+use mathlib.Core.Path.{_≡_, refl, sym, ap, _∙_}
+use mathlib.Core.List.{List}
 use lib.ListN.{length, take, drop, getD, length-drop}
 use lib.Seq.{drop-drop}
-use Rattle.image.specs.Syntax.{Span, Symbol, character, identifier, number, s-kind, t-kind, e-kind, Terms, nil, symbol, variable, bracket, call, block}
-use Rattle.image.specs.Bytes.{put32, putSpan, putName}
+use Rattle.image.specs.Syntax.{character, identifier, number, s-kind, t-kind, e-kind, Terms, nil, symbol, variable, bracket, call, block}
+use Rattle.image.specs.Bytes.{putName}
 use Rattle.image.specs.Encode.{putSymbol, kindMark, putTerms}
 use Rattle.image.specs.Limits.{Mode, ValidTerms}
 use Rattle.image.specs.Parts.{Passes, TermsAt, tail}
 use Rattle.image.proofs.Lengths.{span-length, name-length, symbol-length, terms-length}
-use Rattle.image.proofs.Readings.{fewer-around}
-use Rattle.symbols.specs.Parts.{SymbolAt}
 use Rattle.symbols.proofs.Parts.{part-rest}
 use Rattle.overlap.specs.Search.{One, View, view}
 use Rattle.overlap.specs.Parts.{HeadAt}

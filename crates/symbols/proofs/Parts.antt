@@ -2,21 +2,21 @@
 use Prim.Native.Nat.{ℕ, _-_, _<_, _≤_}
 use native.Mathlib.Omega.{arith}
 use native.Mathlib.Nat.{le-refl}
-use mathlib.Core.Path.{_≡_, refl, sym, ap, ap₂, _∙_}
+use mathlib.Core.Path.{_≡_, refl, sym, ap, _∙_}
 use mathlib.Core.Bool.{Bool, true, false, true≢false}
 use mathlib.Core.List.{List, []}
 use lib.Dec.{eqb, leb, ltb}
 use lib.ListN.{length, take, drop, getD, length-drop}
 use lib.Seq.{take-all}
-use borrow.Author.Tests.{eqb-true, eq-eqb, ltb-true, leb-true, leb-false}
-use Rattle.image.specs.Syntax.{Name, Span, Symbol, character, identifier, number}
-use Rattle.image.specs.Bytes.{put32, putSpan, putName, get32}
+use borrow.Author.Tests.{eqb-true, eq-eqb, ltb-true, leb-true}
+use Rattle.image.specs.Syntax.{Span, Symbol, character, identifier, number}
+use Rattle.image.specs.Bytes.{put32, putSpan, get32}
 use Rattle.image.specs.Encode.{putSymbol}
 use Rattle.image.specs.Limits.{pick, scalar, ValidSymbol}
 use Rattle.image.specs.Parts.{NameAt}
 use Rattle.image.proofs.Numbers.{get32-put32}
-use Rattle.image.proofs.Lengths.{symbol-length, span-length, code-length}
-use Rattle.symbols.specs.Names.{caseless, eqBytes, sameName}
+use Rattle.image.proofs.Lengths.{symbol-length}
+use Rattle.symbols.specs.Names.{eqBytes, sameName}
 use Rattle.symbols.specs.Symbols.{key, eqSymbol, sameSymbol}
 use Rattle.symbols.specs.Parts.{SymbolAt}
 use Rattle.symbols.proofs.Tests.{same-test}

@@ -1,7 +1,7 @@
 -- `overlap::leftover_overlap` meets its contract.
-use Prim.Native.Nat.{ℕ, _+_, _-_, _<_, _≤_}
+use Prim.Native.Nat.{_+_, _-_, _<_, _≤_}
 use native.Mathlib.Omega.{arith}
-use mathlib.Core.Path.{refl, sym, _∙_}
+use mathlib.Core.Path.{refl, sym}
 use lib.ListN.{length}
 use Rattle.image.specs.Limits.{Mode}
 use Rattle.image.specs.Parts.{TermsAt}

@@ -1,8 +1,8 @@
--- Reports by computation: document 01's two, and one for each kind of line.
+-- Reports by computation: document 01's two, and one for each kind of line. tools/report_examples.py holds each to the Rust's.
 use Prim.Native.Nat.{ℕ, zero, suc}
 use mathlib.Core.Path.{_≡_, refl}
 use mathlib.Core.List.{[], _∷_}
-use Rattle.image.specs.Syntax.{character, Terms, nil, symbol, call, none, empty, local, entry, Program}
+use Rattle.image.specs.Syntax.{character, Terms, nil, symbol, call, block, none, empty, local, entry, Program}
 use Rattle.symbols.specs.Ascii.{ascii}
 use Rattle.cleaning.specs.Text.{Text}
 use Rattle.cleaning.specs.CleanReport.{cleanReport}
@@ -55,6 +55,21 @@ dynamic-report : reported dynamic
     ≡ ascii "functions: 2\nsentences: 3 -> 3\nrounds: 0\nremoved: 0\nundecided: 0\nuncovered: 0\ndynamic-dispatch: yes (nothing cleaned)\ngraph: unknown\n"
 unfolding computing dynamic
 dynamic-report = refl
+
+-- The same in a sentence of a block.
+dynamicBlock : Program
+dynamicBlock = record {
+  declarations = [];
+  functions =
+      define local "Go" (rule (e-var "X" nil) none (block noSpan (e-var "X" nil) (rule (e-var "Y" nil) none (apply "UP" (e-var "Y" nil) nil) empty) (apply "F" (char 65 nil) nil)) empty)
+      ∷ define local "F" (rule (char 65 nil) none nil (rule (char 66 nil) none nil empty))
+      ∷ [];
+}
+
+dynamicBlock-report : reported dynamicBlock
+    ≡ ascii "functions: 2\nsentences: 3 -> 3\nrounds: 0\nremoved: 0\nundecided: 0\nuncovered: 0\ndynamic-dispatch: yes (nothing cleaned)\ngraph: unknown\n"
+unfolding computing dynamicBlock
+dynamicBlock-report = refl
 
 -- The site `<G 'X'>` goes with its sentence, and then `G`'s first sentence.
 cascade : Program

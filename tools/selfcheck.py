@@ -1,4 +1,4 @@
-"""Checks the tools themselves: reader and encoder, generator, oracle, image corpus.
+"""Checks the tools themselves: reader and encoder, generator, oracle, both corpora.
 
     python3 tools/selfcheck.py [ORACLE]
 
@@ -13,17 +13,13 @@ from pathlib import Path
 
 import generate
 import oracle as asking
+from overlap_vectors import CASES, expected_answer, one_function, terms
 from reader import (
-    Bracket,
     Call,
-    Character,
     Function,
-    Identifier,
-    Number,
     Program,
     Refusal,
     Sentence,
-    Variable,
     encode,
     read_image,
 )
@@ -149,44 +145,50 @@ def check_trailers():
 # -------------------------------------------------------------------- corpus
 
 
-def check_corpus_file(path):
-    """Replays a written corpus, so that its format has a second reader too."""
+def corpus_records(name, layout):
+    """Number, image and other fields of each record, by a second reader of the format."""
+    path = asking.REPOSITORY / "crates" / "vectors" / "data" / name
+    if not path.exists():
+        print(f"left out: no {name} corpus is written")
+        return
     data = path.read_bytes()
     place, image, records = 0, b"", 0
     while place < len(data):
-        length, position, value, number, at = struct.unpack_from("<HHBBH", data, place)
-        place += 8
+        length, *fields = struct.unpack_from(layout, data, place)
+        place += struct.calcsize(layout)
         if length:
             image = data[place : place + length]
             place += length
+        records += 1
+        yield records, image, fields
+    print(f"{records} records of the {name} corpus answered as written")
+
+
+def check_image_corpus():
+    for number, image, (position, value, *expected) in corpus_records("image", "<HHBBH"):
         question = bytearray(image)
         if position < len(question):
             question[position] = value
         answer = read_image(bytes(question))
-        found = tuple(answer) if isinstance(answer, Refusal) else (0, 0)
-        check(found == (number, at), f"record {records} of {path.name}")
-        records += 1
-    print(f"{records} records of {path.name} answered as written")
+        found = list(answer) if isinstance(answer, Refusal) else [0, 0]
+        check(found == expected, f"record {number} of the image corpus: {found}")
+
+
+def check_overlap_corpus(oracle):
+    for number, image, (first, second, *expected) in corpus_records("overlap", "<HHHBBHH"):
+        found = list(expected_answer(oracle, image, first, second))
+        check(found == expected, f"record {number} of the overlap corpus: {found}")
 
 
 # -------------------------------------------------------------------- oracle
 
 
-def variable(text):
-    kind, name = text.split(".")
-    return Variable(kind, name.encode())
-
-
-def characters(text):
-    return [Character(ord(character)) for character in text]
-
-
 def worked_example():
     """$ENTRY Go { e.X = <F 'A' e.X>; } and F { 'A' e.Y = e.Y; (e.Z) = 'B'; }"""
-    call = Call(b"F", [*characters("A"), variable("e.X")])
-    go = Function(b"Go", [Sentence([variable("e.X")], [], [call])], entry=True)
-    first = Sentence([*characters("A"), variable("e.Y")], [], [variable("e.Y")])
-    second = Sentence([Bracket([variable("e.Z")])], [], characters("B"))
+    call = Call(b"F", terms("'A' e.X"))
+    go = Function(b"Go", [Sentence(terms("e.X"), [], [call])], entry=True)
+    first = Sentence(terms("'A' e.Y"), [], terms("e.Y"))
+    second = Sentence(terms("(e.Z)"), [], terms("'B'"))
     return Program([], [go, Function(b"F", [first, second])])
 
 
@@ -209,25 +211,6 @@ uncovered: 0
 graph: perfect
 """
 
-THREE = [variable("e.1"), variable("e.2"), variable("e.3"), *characters("B")]
-
-# Cases 1 to 11 of "The overlap verdict", then 26 and 27 characters in case 11.
-CASES = (
-    ([], [], asking.OVERLAP, 1),
-    ([], [variable("e.X")], asking.OVERLAP, 1),
-    ([], [variable("s.X")], asking.DISJOINT, 1),
-    ([variable("s.X")], [Bracket()], asking.DISJOINT, 1),
-    ([variable("t.X")], [Bracket()], asking.OVERLAP, 2),
-    ([variable("s.X"), variable("s.X")], characters("AB"), asking.OVERLAP, 3),
-    ([Number(b"007")], [Number(b"7")], asking.DISJOINT, 1),
-    ([Number(b"1")], characters("1"), asking.DISJOINT, 1),
-    ([Identifier(b"Abc")], [Identifier(b"ABC")], asking.OVERLAP, 2),
-    (characters("a"), characters("A"), asking.DISJOINT, 1),
-    (THREE, characters("A" * 10), asking.DISJOINT, 352),
-    (THREE, characters("A" * 26), asking.DISJOINT, 4032),
-    (THREE, characters("A" * 27), asking.UNKNOWN, 4096),
-)
-
 
 def check_oracle(path):
     with asking.Oracle(path) as oracle:
@@ -239,11 +222,11 @@ def check_oracle(path):
         check(cleaned == encode(expected), "the worked example's cleaned image")
         check(oracle.clean(bytes(12)) == (bytes(12), EMPTY_REPORT), "12 zeros cleaned")
         for number, (first, second, verdict, spent) in enumerate(CASES, 1):
-            pair = Program([], [Function(b"F", [Sentence(first), Sentence(second)])])
-            answer = oracle.overlap(encode(pair), 0, 1)
+            answer = oracle.overlap(one_function([terms(first), terms(second)]), 0, 1)
             check(answer == (verdict, spent), f"overlap case {number}: {answer}")
         print(f"oracle: worked example, 12 zeros and {len(CASES)} overlap cases as in document 01")
         check_oracle_on_programs(oracle)
+        check_overlap_corpus(oracle)
 
 
 def check_oracle_on_programs(oracle):
@@ -274,11 +257,7 @@ def main():
     check_damage()
     check_refusals()
     check_trailers()
-    corpus = asking.REPOSITORY / "crates" / "vectors" / "data" / "image"
-    if corpus.exists():
-        check_corpus_file(corpus)
-    else:
-        print("left out: no image corpus is written")
+    check_image_corpus()
     path = Path(sys.argv[1]) if len(sys.argv) > 1 else asking.DEFAULT_PROGRAM
     if path.exists():
         check_oracle(path)

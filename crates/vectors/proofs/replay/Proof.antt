@@ -7,10 +7,10 @@ use Rattle.vectors.proofs.replay.Statement.{statement}
 use Rattle.vectors.proofs.replay.Tie as tie
 
 abbrev Inv-loop : tie.InvT-loop
-Inv-loop fd buf₀ n₀ asked₀ first-wrong₀ buf n asked first-wrong = length buf ≡ length buf₀
+Inv-loop kind fd buf₀ n₀ asked₀ first-wrong₀ buf n asked first-wrong = length buf ≡ length buf₀
 
 abbrev μ-loop : tie.MeasureT-loop
-μ-loop fd buf₀ n₀ asked₀ first-wrong₀ buf n asked first-wrong = 1000000 - asked
+μ-loop kind fd buf₀ n₀ asked₀ first-wrong₀ buf n asked first-wrong = 1000000 - asked
 
 loop-holds : tie.Need-loop-holds Inv-loop μ-loop
 loop-holds c = refl

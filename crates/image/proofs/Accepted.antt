@@ -15,7 +15,7 @@ use Rattle.image.proofs.Numbers.{Bytes}
 use Rattle.image.proofs.Lengths.{body-length, encode-length}
 use Rattle.image.proofs.RoundTrip.{encode-decode, body-len, to-functions, function-field, sentence-field, body-is}
 
--- k is what s ends with
+-- What s ends with: k.
 pub record Ends (s k : List ℕ) : Type 0 where
   pub front : List ℕ
   pub is : s ≡ front ++ k

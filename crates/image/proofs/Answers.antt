@@ -70,7 +70,7 @@ module _ (s : List ℕ) (n a f : ℕ) (hl : 12 ≤ length s) (hn : n ≡ length 
             ap (λ (j : ℕ). Checked.Refused (refusal m (j - k))) (sym take-long) ∙ ap Checked.Refused u
         by (Read.value v) e = absurd (let z : _≡_ {A = ℕ} 0 1 = cc in omega arith)
 
-    -- the program that is read, with its counts
+    -- The program that is read, with its counts.
     read-fine : (c : Counts) → t ≡ Tally.Counted c → (w : Program) × (run Stack.body 0 (take n s) ≡ Read.value w) × (c ≡ counts (length (w .functions)) (ownSentenceCount (w .functions)) (length (putFunctions (w .functions))))
     unfolding tallyOf
     read-fine c q = by (run Stack.body 0 (take n s)) refl (sym ht ∙ q)

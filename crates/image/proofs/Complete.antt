@@ -21,7 +21,7 @@ unfolding made
 made-made g f (Read.refused n l) = refl
 made-made g f (Read.value a) = refl
 
--- a is what g makes of r: an equation whose parts antt can read off
+-- That a is what g makes of r: an equation whose parts antt can read off.
 pub record Makes {A C : Type 0} (a : Read C) (g : A → C) (r : Read A) : Type 0 where
   pub is : a ≡ made g r
 
@@ -55,12 +55,12 @@ unfolding outside
 outside-in Mode.pattern s t h = absurd h
 outside-in Mode.result s t h = refl
 
--- a span is passed over
+-- A span is passed over.
 run-span : (x : Stack) (p : Span) (k : List ℕ) → run x 8 (putSpan p k) ≡ run x 0 k
 unfolding run putSpan put32
 run-span x p k = refl
 
--- so many bytes are passed over
+-- So many bytes are passed over.
 pub run-past : (x : Stack) (n k : List ℕ) → run x (length n) (n ++ k) ≡ run x 0 k
 unfolding run
 run-past x [] k = refl
@@ -75,7 +75,7 @@ named-put : {A : Type 0} (g : Bool) (n k : List ℕ) (t : Turn A) → ValidName 
 unfolding named scanned
 named-put g n k t h = rw (lt-ltb 0 (length n) (h .0), le-leb (length n) 63 (h .1), scan-fair g n k (h .2))
 
--- a name
+-- A name.
 run-name : (g : Bool) (x : Stack) (n k : List ℕ) → ValidName g n → Makes (run (Stack.name g x) 0 (putName n k)) (λ v. (n, v)) (run x 0 k)
 unfolding run turn follow putName
 run-name g x n k h =
@@ -85,7 +85,7 @@ run-name g x n k h =
           ∙ rw (take-append-seam n k, run-past x n k);
     }
 
--- a mark and its span
+-- A mark and its span.
 marked : (x y : Stack) (b : ℕ) (p : Span) (k : List ℕ) (g : Values y → Values x) → turn x b (putSpan p k) ≡ Turn.go y 8 g → Makes (run x 0 (b ∷ putSpan p k)) g (run y 0 k)
 unfolding run follow
 marked x y b p k g e =
@@ -240,7 +240,7 @@ names-more a n x k h =
           ∙ rw (take-append-seam a k, run-past (Stack.names n x) a k);
     }
 
--- a name and those after it
+-- A name and those after it.
 run-names : (a : List ℕ) (ns : List (List ℕ)) (x : Stack) (k : List ℕ) → ValidName false a → ValidNames ns
     → Makes (run (Stack.names (length ns) x) 0 (putName a (putNames ns k))) (λ v. (a ∷ ns, v)) (run x 0 k)
 unfolding run turn turnNames follow putName putNames

@@ -88,7 +88,7 @@ sealed : List ℕ → List ℕ
 unfolding image
 sealed b = image b (length b) 1 1
 
--- n brackets, one in another.
+-- Brackets, n of them, one in another.
 deep : ℕ → List ℕ
 unfolding span
 deep zero = []

@@ -13,12 +13,12 @@ use Rattle.image.specs.Parts.{Sentence, putSentence, sentenceList, ownSe
 use Rattle.image.proofs.Readings.{sentence-passed}
 use Rattle.image.proofs.Lengths.{head-length}
 
--- what stands at a place of the walk: functions, or a function's sentences and then functions
+-- What stands at a place of the walk: functions, or a function's sentences and then functions.
 pub data Place (s : List ℕ) (xs : List Sentence) : Type 0 where
   outer : (fs : List Function) → s ≡ putFunctions fs → xs ≡ ownSentences fs → Place s xs
   inner : (bs : Sentences) (fs : List Function) → s ≡ putSentences bs (putFunctions fs) → xs ≡ sentenceList bs ++ ownSentences fs → Place s xs
 
--- what holds at the loop's head
+-- What holds at the loop's head.
 pub record Walk (b : List ℕ) (all : List Sentence) (n p left : ℕ) : Type 0 where
   pub rest : List Sentence
   pub is : drop n all ≡ drop left rest
@@ -41,7 +41,7 @@ module _ (b : List ℕ) (all : List Sentence) (n p left : ℕ) (hp : p < length 
   long : 0 < length (drop p b)
   long = omega (arith, length-drop p b)
 
-  -- past a function's head
+  -- Past a function's head.
   pub walk-function : getD b p 0 ≡ 18 → (p + 11 + getD b (p + 10) 0 ≤ length b) × Walk b all n (p + 11 + getD b (p + 10) 0) left
   unfolding putFunction putFunctions putSentences putHead putSpan put32 putName ownSentences
   walk-function e = by (w .place)
@@ -59,7 +59,7 @@ module _ (b : List ℕ) (all : List Sentence) (n p left : ℕ) (hp : p < length 
       by (inner Sentences.empty fs q r) = absurd (omega (arith, first-at b p, ap first q))
       by (inner (Sentences.sentence a t c r2 m) fs q r) = absurd (omega (arith, first-at b p, ap first q))
 
-  -- a sentence
+  -- A sentence.
   sentence-here : getD b p 0 ≡ 10 → (x : Sentence) × (k : List ℕ) × (xs : List Sentence) × (drop p b ≡ putSentence x k) × (w .rest ≡ x ∷ xs) × Place k xs
   unfolding putFunction putFunctions putSentences putHead putSentence sentenceList
   sentence-here e = by (w .place)
@@ -87,7 +87,7 @@ module _ (b : List ℕ) (all : List Sentence) (n p left : ℕ) (hp : p < length 
       let d : drop j b ≡ k = h ∙ (ap (pass 2) (sym (drop-drop 9 p b)) ∙ (ap (λ (l : List ℕ). pass 2 (drop 9 l)) q ∙ sentence-passed x k)) in
       record { rest = xs; is = w .is ∙ (ap (drop left) r ∙ ap (λ (i : ℕ). drop i (x ∷ xs)) y); place = subst (λ (s : List ℕ). Place s xs) (sym d) z }
 
-  -- past a function's close
+  -- Past a function's close.
   pub walk-close : (getD b p 0 ≡ 18 → ⊥) → (getD b p 0 ≡ 10 → ⊥) → Walk b all n (p + 1) left
   unfolding putFunction putFunctions putSentences putHead putSentence sentenceList
   walk-close n1 n2 = by (w .place)
@@ -98,7 +98,7 @@ module _ (b : List ℕ) (all : List Sentence) (n p left : ℕ) (hp : p < length 
       by (inner Sentences.empty fs q r) = record { rest = w .rest; is = w .is; place = outer fs (sym (drop-drop 1 p b) ∙ ap (drop 1) q) r }
       by (inner (Sentences.sentence a t c r2 m) fs q r) = absurd (n2 (sym (first-at b p) ∙ ap first q))
 
--- the end: no sentence is left
+-- The end: no sentence is left.
 pub walk-end : (b : List ℕ) (all : List Sentence) (n p left : ℕ) → Walk b all n p left → length b ≤ p → drop n all ≡ []
 unfolding putFunction putFunctions putSentences putHead ownSentences
 walk-end b all n p left w h = w .is ∙ by (w .place)
@@ -112,7 +112,7 @@ walk-end b all n p left w h = w .is ∙ by (w .place)
     by (inner Sentences.empty fs q r) = absurd (omega (arith, ap length (sym q ∙ e)))
     by (inner (Sentences.sentence a t c r2 m) fs q r) = absurd (omega (arith, ap length (sym q ∙ e)))
 
--- the same for whatever functions stand there
+-- The same for whatever functions stand there.
 abbrev pub Walks : List ℕ → ℕ → ℕ → ℕ → ℕ → Type 0
 Walks b from n p left = (h : FunctionsAt (drop from b)) → Walk b (ownSentences (h .functions)) n p left
 

@@ -94,7 +94,7 @@ is-result k e = record { mode = Mode.result; is = e }
 pub is-pattern : (k : ℕ) → k ≡ 3 → TermsKind k
 is-pattern k e = record { mode = Mode.pattern; is = e }
 
--- what holds of an frame of a kind holds of one whose kind is that
+-- What holds of a frame of a kind holds of one whose kind is that.
 pub kinded : (b : List ℕ) (p : ℕ) (e : Frame) (r : Step) (k : ℕ) → e .kind ≡ k → Does b p (frame k (e .arg)) r → Does b p e r
 kinded b p e r k q d = subst (λ (j : ℕ). Does b p (frame j (e .arg)) r) (sym q) d
 

@@ -125,14 +125,14 @@ stack-first zero s zero m left f = refl
 stack-first (suc k) s zero m left f = refl
 stack-first k s (suc n) m left f = kind-first (getD s n 0 / 256) (getD s n 0 % 256) (stackOf k s n) m left f
 
--- frames at n and above do not matter
+-- Frames at n and above do not matter.
 stack-below : (k : ℕ) (s : List ℕ) (n i c : ℕ) → n ≤ i → stackOf k (set s i c) n ≡ stackOf k s n
 stack-below k s zero i c h = refl
 stack-below k s (suc n) i c h =
     let e : getD (set s i c) n 0 ≡ getD s n 0 = getD-set-other s i n c 0 (λ q. omega arith) in
     rw (e, stack-below k s n i c (omega arith))
 
--- an frame that was stored
+-- A frame that was stored.
 stack-one : (k : ℕ) (s : List ℕ) (i c : ℕ) → i < length s → stackOf k (set s i c) (suc i) ≡ frameOn (unpacked c) (stackOf k s i)
 stack-one k s i c h = rw (getD-set-same s i c 0 h, stack-below k s i i c (omega arith))
 
@@ -175,7 +175,7 @@ module _ (k : ℕ) (s : List ℕ) (i c0 c1 c2 c3 : ℕ) (h : i + 4 ≤ length s)
   stored (suc (suc (suc (suc zero)))) l = four
   stored (suc (suc (suc (suc (suc n))))) l = absurd (omega arith)
 
--- what is stored is what was pushed
+-- What is stored is what was pushed.
 pub stored-is : (k : ℕ) (s : List ℕ) (i : ℕ) (g : Push) (t : List ℕ) → i + 4 ≤ length s → g .n ≤ 4 → Stored s i g t → stackOf k t (i + g .n) ≡ pushed g (stackOf k s i)
 stored-is k s i g t h l w =
     ap (λ (u : List ℕ). stackOf k u (i + g .n)) (w .is)
@@ -185,14 +185,14 @@ stored-is k s i g t h l w =
 pub stored-length : (s : List ℕ) (i : ℕ) (g : Push) (t : List ℕ) → Stored s i g t → length t ≡ length s
 stored-length s i g t w = ap length (w .is) ∙ simp length-set
 
--- a turn at the stack as a list of numbers
+-- A turn at the stack as a list of numbers.
 turned-at : (b : List ℕ) (p k : ℕ) (s : List ℕ) (n : ℕ) (r : Step) → TurnDoes b p k n (topOf s n) r → DoesAt b p (stackOf k s n) (stackOf (bottomNext n (getD b p 0) k) s (n - 1)) r
 turned-at b p k s zero r d = d
 turned-at b p k s (suc n) r d =
     let q : suc n - 1 ≡ n = omega arith in
     rw q (d (stackOf k s n))
 
--- what holds at the loop's head
+-- What holds at the loop's head.
 pub record State (b s : List ℕ) (n k at nf ns f : ℕ) : Type 0 where
   pub within : at ≤ length b
   pub room : length s ≡ 148
@@ -232,7 +232,7 @@ sentences-few (suc n) e m = by (eqb (e .kind) 5) (eqb (e .arg) 0) (eqb m 10)
     by false u v = omega arith
 
 module _ (b s : List ℕ) (n k at nf ns f : ℕ) (st : State b s n k at nf ns f) (ha : at < length b) where
-  -- a refusal
+  -- A refusal.
   pub state-bad : (w : Refusal) → TurnDoes b at k n (topOf s n) (Step.Refuse w) → Tally.Refused w ≡ tallyOf (length b) (run Stack.body 0 b)
   unfolding run follow
   state-bad w d =
@@ -244,7 +244,7 @@ module _ (b s : List ℕ) (n k at nf ns f : ℕ) (st : State b s n k at nf ns f)
       (ap (λ (t : Turn (Values (stackOf k s n))). tallyIn (stackOf k s n) (length b) nf ns f (follow t (λ y j. run y j (drop (suc at) b)))) (r .is)
       ∙ ap (λ (p : ℕ). Tally.Refused (refusal (w .number) p)) z))
 
-  -- a turn that goes on
+  -- A turn that goes on.
   pub state-next : (g : Push) (t : List ℕ) → Bytes b → TurnDoes b at k n (topOf s n) (Step.Go g) → Stored s (n - 1) g t
       → State b t (n - 1 + g .n) (bottomNext n (getD b at 0) k) (g .to) (nf + functionOne n (getD b at 0)) (ns + sentenceOne n (topOf s n) (getD b at 0)) (firstNext n (getD b at 0) k (length b - at) f)
   state-next g t bytes d w =
@@ -310,7 +310,7 @@ pub bytes-of : (s : List ℕ) → ((i : ℕ) → getD s i 0 < 256) → Bytes s
 bytes-of [] h = tt
 bytes-of (b ∷ s) h = (h 0, bytes-of s (λ i. h (suc i)))
 
--- the same, from what the loop's calls ensure
+-- The same, from what the loop's calls ensure.
 module _ (b s : List ℕ) (n k at nf ns f : ℕ) (st : State b s n k at nf ns f) (ha : at < length b) (e : Frame) (r : Step) (he : e ≡ topOf s n) (hr : TurnDoes b at k n e r) where
   pub loop-bad : (w : Refusal) → r ≡ Step.Refuse w → Tally.Refused w ≡ tallyOf (length b) (run Stack.body 0 b)
   loop-bad w q = state-bad b s n k at nf ns f st ha w (subst (TurnDoes b at k n (topOf s n)) q (subst (λ (d : Frame). TurnDoes b at k n d r) he hr))

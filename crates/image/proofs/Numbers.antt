@@ -13,12 +13,12 @@ use Rattle.image.specs.Syntax.{Span}
 use Rattle.image.specs.Bytes.{put16, put32, putSpan, putName, get16, get32, getSpan}
 use Rattle.image.specs.Limits.{ValidSpan}
 
--- every element is a byte
+-- Every element is a byte.
 abbrev pub Bytes : List ℕ → Type 0
 Bytes [] = Unit {0}
 Bytes (b ∷ s) = (b < 256) × Bytes s
 
--- a byte and what stands above it
+-- A byte and what stands above it.
 low : (a q : ℕ) → a < 256 → (a + 256 * q) % 256 ≡ a
 low a q h = omega arith
 
@@ -39,7 +39,7 @@ pub get16-put16 : (n : ℕ) (k : List ℕ) → n < 65536 → get16 (put16 n k) 0
 unfolding get16 put16
 get16-put16 n k h = omega arith
 
--- four bytes are those of their number
+-- Four bytes are those of their number.
 pub put32-four : (a b c d : ℕ) (k : List ℕ) → a < 256 → b < 256 → c < 256 → d < 256 → put32 (a + 256 * (b + 256 * (c + 256 * d))) k ≡ a ∷ b ∷ c ∷ d ∷ k
 unfolding put32
 put32-four a b c d k ha hb hc hd =
@@ -76,7 +76,7 @@ four-bytes (a ∷ b ∷ c ∷ d ∷ a2 ∷ b2 ∷ c2 ∷ d2 ∷ s) k h l e = (
   sym (put32-four a2 b2 c2 d2 k (h .1 .1 .1 .1 .0) (h .1 .1 .1 .1 .1 .0) (h .1 .1 .1 .1 .1 .1 .0) (h .1 .1 .1 .1 .1 .1 .1 .0)),
 )
 
--- a span's bytes are those of the span that is read there
+-- A span's bytes are those of the span that is read there.
 pub span-back : (s k : List ℕ) → Bytes s → 8 ≤ length s → s ≡ take 8 s ++ k → s ≡ putSpan (getSpan s 0) k
 unfolding putSpan getSpan
 span-back s k h l e =
@@ -96,7 +96,7 @@ pub get32-fits : (s : List ℕ) (i : ℕ) → Bytes s → get32 s i < 4294967296
 unfolding get32
 get32-fits s i h = omega (arith, getD-byte s i h, getD-byte s (i + 1) h, getD-byte s (i + 2) h, getD-byte s (i + 3) h)
 
--- a number that stands from n on
+-- A number that stands from n on.
 pub get32-drop : (s : List ℕ) (n i : ℕ) → get32 s (n + i) ≡ get32 (drop n s) i
 unfolding get32
 get32-drop s n i = simp (add-assoc n i 1, add-assoc n i 2, add-assoc n i 3, getD-drop)

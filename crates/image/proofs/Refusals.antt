@@ -47,7 +47,7 @@ pub low-name : (x : ℕ) → x < 33 → false ≡ allowed false x
 unfolding allowed
 low-name x h = rw (lt-leb 33 x h)
 
--- the scan of n bytes from p on, when i of them are passed
+-- The scan of n bytes from p on, when i of them are passed.
 module _ (b : List ℕ) (p n : ℕ) (g : Bool) where
   pub record Passed (i : ℕ) : Type 0 where
     pub is : scan g n (drop p b) ≡ scan g (n - i) (drop (p + i) b)
@@ -85,7 +85,7 @@ module _ (b : List ℕ) (p n : ℕ) (g : Bool) where
       let q : n - i ≡ 0 = omega arith in
       rw (e .is, q)
 
--- a step after a check: with no refusal it goes on
+-- A step after a check: with no refusal it goes on.
 pub step-on : (f : Refusal) (g : Push) {r : Step} → f .number ≡ 0 → r ≡ Step.Go g → r ≡ stepOf f g
 unfolding stepOf
 step-on f g h e = rw (e, eq-eqb (f .number) 0 h)

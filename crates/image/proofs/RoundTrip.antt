@@ -21,7 +21,7 @@ use Rattle.image.proofs.Lengths.{functions-length, body-length, encode-
 use Rattle.image.proofs.Complete.{run-body}
 use Rattle.image.proofs.Sound.{sound, apart}
 
--- a number that stands past the first list
+-- A number that stands past the first list.
 get32-past : (a t : List ℕ) (i : ℕ) → get32 (a ++ t) (length a + i) ≡ get32 t i
 unfolding get32
 get32-past a t i =
@@ -31,7 +31,7 @@ get16-past : (a t : List ℕ) (i : ℕ) → get16 (a ++ t) (length a + i) ≡ ge
 unfolding get16
 get16-past a t i = simp (add-assoc (length a) i 1, getD-append-add a t i 0, getD-append-add a t (i + 1) 0)
 
--- the trailer's fields, where they fit
+-- The trailer's fields, where they fit.
 trailer-body : (w : Program) → length (putBody w) < 4294967296 → get32 (trailer w) 0 ≡ length (putBody w)
 unfolding trailer
 trailer-body w h = get32-put32 (length (putBody w)) _ h
@@ -100,13 +100,13 @@ module _ (w : Program) (h : length (encode w) ≤ 32768) where
       rw (to-functions, function-field, sentence-field, eq-eqb (length (putFunctions (w .functions))) (length (putFunctions (w .functions))) refl, eq-eqb (length (w .functions)) (length (w .functions)) refl)
       (eq-eqb (ownSentenceCount (w .functions)) (ownSentenceCount (w .functions)) refl)
 
--- every show within the limits is accepted, and read back
+-- Every program within the limits is accepted, and read back.
 pub decode-encode : (w : Program) → Valid w → decode (encode w) ≡ Answer.accepted w
 unfolding decode decodeSized settled
 decode-encode w h =
     rw (is-sized w (h .1), is-pointed w (h .1), body-is w (h .1), run-body w (h .0), is-agreed w (h .1))
 
--- twelve bytes are those of their four numbers
+-- Twelve bytes are those of their four numbers.
 twelve : (t : List ℕ) → Bytes t → length t ≡ 12 → t ≡ put32 (get32 t 0) (put32 (get32 t 4) (put16 (get16 t 8) (put16 (get16 t 10) [])))
 unfolding get32 get16
 twelve [] h l = absurd (omega arith)
@@ -130,7 +130,7 @@ twelve (a ∷ b ∷ c ∷ d ∷ e ∷ f ∷ g ∷ i ∷ j ∷ m ∷ n ∷ o ∷ 
     (put16-two j m _ (h .1 .1 .1 .1 .1 .1 .1 .1 .0) (h .1 .1 .1 .1 .1 .1 .1 .1 .1 .0) ∙ ap (λ (t : List ℕ). j ∷ m ∷ t) (put16-two n o [] (h .1 .1 .1 .1 .1 .1 .1 .1 .1 .1 .0) (h .1 .1 .1 .1 .1 .1 .1 .1 .1 .1 .1 .0)))))
 twelve (a ∷ b ∷ c ∷ d ∷ e ∷ f ∷ g ∷ i ∷ j ∷ m ∷ n ∷ o ∷ p ∷ t) h l = absurd (omega arith)
 
--- a test that passed
+-- A test that passed.
 picked : {A : Type 0} (t : Bool) (a b c : A) → pick t a b ≡ c → (b ≡ c → ⊥) → (t ≡ true) × (a ≡ c)
 picked true a b c e n = (refl, e)
 picked false a b c e n = absurd (n e)
@@ -206,7 +206,7 @@ module _ (s : List ℕ) (w : Program) (bytes : Bytes s) (e : decode s ≡ Answer
   unfolding encode
   whole-read = sym (take-append-drop (bodyLength s) s) ∙ rw (body-read .0, trailer-read)
 
--- what is accepted is the encoding of its show, which is within the limits
+-- What is accepted is the encoding of its program, which is within the limits.
 pub encode-decode : (s : List ℕ) (w : Program) → Bytes s → decode s ≡ Answer.accepted w → (s ≡ encode w) × Valid w
 encode-decode s w h e =
     let q = whole-read s w h e in

@@ -50,7 +50,7 @@ Says s P (Turn.refuse n l) = Unit {0}
 Says s P (Turn.done a) = P a
 Says s P (Turn.go y k g) = (v : Values y) → s ≡ take k s ++ encodings y v → ValidValues y v → P (g v)
 
--- b and s are the bytes of the values.
+-- The byte b and s after it are the bytes of the values.
 abbrev Back : (x : Stack) → ℕ → List ℕ → Values x → Type 0
 Back x b s v = (b ∷ s ≡ encodings x v) × ValidValues x v
 
@@ -304,7 +304,7 @@ unfolding made
 made-ok g (Read.refused n l) e = absurd (apart e)
 made-ok g (Read.value u) e = (u, refl, cc)
 
--- what a turn leads to
+-- What a turn leads to.
 follow-says : {A : Type 0} (s : List ℕ) (P : A → Type 0) (t : Turn A) (v : A) → Says s P t
     → ((y : Stack) (k : ℕ) (u : Values y) → run y k s ≡ Read.value u → (s ≡ take k s ++ encodings y u) × ValidValues y u)
     → follow t (λ y k. run y k s) ≡ Read.value v → P v

@@ -1,4 +1,4 @@
--- What a step of the reader says of the machine's turn, mark by mark.
+-- What a step of the reader says of the automaton's turn, mark by mark.
 use Prim.Native.Nat.{ℕ, zero, suc, _+_, _-_, _≤_, _<_}
 use native.Mathlib.Omega.{arith}
 use native.Mathlib.Numerals.{add-one}
@@ -22,7 +22,7 @@ use Rattle.image.specs.declared.reader.Step.{Step}
 use Rattle.image.proofs.Numbers.{get32-drop}
 use Rattle.image.proofs.Sound.{scan-good}
 
--- the bytes after p
+-- The bytes after p.
 abbrev rest : List ℕ → ℕ → List ℕ
 rest b p = drop (suc p) b
 
@@ -83,7 +83,7 @@ bad-at b p y x n hp turns {r} q =
     subst (DoesAt b p y x) (sym q)
     (record { within = omega arith; is = turns ∙ ap (Turn.refuse n) (omega (arith, rest-length b p)) })
 
--- the same with an frame on top
+-- The same with a frame on top.
 pub span-does : (b : List ℕ) (p n : ℕ) (e e0 e1 e2 e3 : Frame) → p < length b → n ≤ 4 → (h : (x : Stack) → Span → Values (frames n e0 e1 e2 e3 x) → Values (frameOn e x))
     → ((x : Stack) → turn (frameOn e x) (getD b p 0) (rest b p) ≡ spanned (rest b p) (λ q. Turn.go (frames n e0 e1 e2 e3 x) 8 (h x q)))
     → {r : Step} → r ≡ spanStep b p n e0 e1 e2 e3 → Does b p e r

@@ -21,7 +21,7 @@ use Rattle.image.specs.declared.reader.Step.{Step}
 use Rattle.image.proofs.Numbers.{get32-drop}
 use Rattle.image.proofs.Steps.{span-at, bad-at, span-does, bad-does, go-does, name-does}
 
--- terms at a mode
+-- Terms at a mode.
 module _ (b : List ℕ) (p d : ℕ) (hp : p < length b) where
   character-at : (m : Mode) → getD b p 0 ≡ 1 → {r : Step} (z : Frame) → r ≡ spanStep b p 2 (frame (termsKind m) d) (frame 9 0) z z → Does b p (frame (termsKind m) d) r
   unfolding turn turnTerms termMark
@@ -51,7 +51,7 @@ module _ (b : List ℕ) (p d : ℕ) (hp : p < length b) where
   unfolding turn turnTerms termMark nested outside
   block-at q l z = span-does b p 3 (frame 2 d) (frame 2 d) (frame 5 (d + 1)) (frame 2 (d + 1)) z hp (omega arith) (λ x s v. (Terms.block s (v .0) (v .1 .0) (v .1 .1 .0), v .1 .1 .1)) (λ x. rw (q, lt-ltb d 32 l, add-one d))
 
-  -- a bracket, call or block too deep
+  -- A bracket, call or block too deep.
   deep-at : (m : Mode) → getD b p 0 ≡ 7 → 32 ≤ d → {r : Step} → r ≡ Step.Refuse (refusal 10 p) → Does b p (frame (termsKind m) d) r
   unfolding turn turnTerms termMark nested
   deep-at Mode.result q l = bad-does b p (frame 2 d) 10 hp (λ x. rw (q, le-ltb d 32 l))
@@ -65,7 +65,7 @@ module _ (b : List ℕ) (p d : ℕ) (hp : p < length b) where
   unfolding turn turnTerms termMark nested outside
   deep-block q l = bad-does b p (frame 2 d) 10 hp (λ x. rw (q, le-ltb d 32 l))
 
-  -- a call or block in a pattern
+  -- A call or block in a pattern.
   inside-call : getD b p 0 ≡ 8 → {r : Step} → r ≡ Step.Refuse (refusal 9 p) → Does b p (frame 3 d) r
   unfolding turn turnTerms termMark outside
   inside-call q = bad-does b p (frame 3 d) 9 hp (λ x. rw q)
@@ -154,7 +154,7 @@ barred-none k d n e z = by (barred-cases k d n e)
     by (too-deep h l q) = absurd (omega arith)
     by (free h l q) = (h, l)
 
--- the same for a kind that is terms
+-- The same for a kind that is terms.
 module _ (b : List ℕ) (p k d : ℕ) (hp : p < length b) (hk : TermsKind k) where
   pub turn-character : getD b p 0 ≡ 1 → {r : Step} (z : Frame) → r ≡ spanStep b p 2 (frame k d) (frame 9 0) z z → Does b p (frame k d) r
   turn-character q {r} z e = by-mode (λ j. r ≡ spanStep b p 2 (frame j d) (frame 9 0) z z → Does b p (frame j d) r) (λ m. character-at b p d hp m q z) k hk e

@@ -21,7 +21,7 @@ use Rattle.image.specs.declared.reader.Tally.{Tally}
 use Rattle.image.proofs.Numbers.{Bytes}
 use Rattle.image.proofs.Sound.{IsSentenceMark, IsItemMark, sentence-mark-is, item-mark-is, encodings, sound, apart}
 
--- how many frames lie on the bottom
+-- How many frames lie on the bottom.
 abbrev pub height : Stack → ℕ
 height Stack.any = 0
 height Stack.body = 0
@@ -35,7 +35,7 @@ height (Stack.code x) = suc (height x)
 height (Stack.visibility x) = suc (height x)
 height (Stack.counted x) = suc (height x)
 
--- the room that the frames take, by the depth at each
+-- The room that the frames take, by the depth at each.
 abbrev pub Fit : Stack → Type 0
 Fit Stack.any = ⊥
 Fit Stack.body = Unit {0}
@@ -95,7 +95,7 @@ module _ {A : Type 0} (P : (y : Stack) → (Values y → A) → Type 0) where
   unfolding named wrong
   named-next g b s t h = pick-next (ltb 0 b) _ _ (λ e. pick-next (leb b 63) _ _ (λ e2. scanned-next (scan g b s) t h) (λ e2. tt)) (λ e. tt)
 
--- a turn keeps within the room
+-- A turn keeps within the room.
 fit-terms : (k : TermMark) (m : Mode) (d : ℕ) (x : Stack) (s : List ℕ) → Fit (Stack.terms m d x) → Next (λ y g. Fit y) (turnTerms k m d x s)
 unfolding turnTerms wrong
 fit-terms TermMark.other m d x s h = tt
@@ -164,7 +164,7 @@ fit-turn (Stack.code x) b s h = fit-code b x s h
 fit-turn (Stack.visibility x) b s h = fit-visibility b x s h
 fit-turn (Stack.counted x) b s h = fit-counted b x h
 
--- what is left of the counts in the values to come
+-- What is left of the counts in the values to come.
 abbrev pub functionsIn : (x : Stack) → Values x → ℕ
 functionsIn Stack.any v = 0
 functionsIn Stack.body v = length (v .functions)
@@ -192,7 +192,7 @@ sentencesIn (Stack.counted x) v = sentencesIn x (v .1)
 sentencesIn (Stack.sentences zero x) v = sentenceCount (v .0) + sentencesIn x (v .1)
 sentencesIn (Stack.sentences (suc d) x) v = sentencesIn x (v .1)
 
--- the first function, f where it is passed
+-- The first function, f where it is passed.
 abbrev pub firstIn : (x : Stack) → ℕ → Values x → ℕ
 firstIn Stack.any f v = f
 firstIn Stack.body f v = length (putFunctions (v .functions))
@@ -206,7 +206,7 @@ firstIn (Stack.visibility x) f v = firstIn x f (v .1)
 firstIn (Stack.counted x) f v = firstIn x f (v .1)
 firstIn (Stack.sentences d x) f v = firstIn x f (v .1)
 
--- what the byte b adds
+-- What the byte b adds.
 abbrev pub functionsAt : Stack → ℕ → ℕ
 functionsAt Stack.any b = 0
 functionsAt Stack.body b = pick (eqb b 18) 1 0
@@ -234,7 +234,7 @@ sentencesAt (Stack.counted x) b = 0
 sentencesAt (Stack.sentences zero x) b = pick (eqb b 10) 1 0
 sentencesAt (Stack.sentences (suc d) x) b = 0
 
--- b is not the first function's mark
+-- The byte b is not the first function's mark.
 abbrev pub Inner : Stack → ℕ → Type 0
 Inner Stack.any b = Unit {0}
 Inner Stack.body b = b ≡ 18 → ⊥
@@ -248,7 +248,7 @@ Inner (Stack.visibility x) b = Unit {0}
 Inner (Stack.counted x) b = Unit {0}
 Inner (Stack.sentences d x) b = Unit {0}
 
--- b is the first function's mark
+-- The byte b is the first function's mark.
 abbrev pub Starts : Stack → ℕ → Type 0
 Starts Stack.any b = ⊥
 Starts Stack.body b = b ≡ 18
@@ -262,7 +262,7 @@ Starts (Stack.visibility x) b = ⊥
 Starts (Stack.counted x) b = ⊥
 Starts (Stack.sentences d x) b = ⊥
 
--- a turn at b keeps the counts
+-- A turn at b keeps the counts.
 abbrev Keeps : (x : Stack) → ℕ → (y : Stack) → (Values y → Values x) → Type 0
 Keeps x b y g = (v : Values y) → (functionsIn x (g v) ≡ functionsIn y v + functionsAt x b) × (sentencesIn x (g v) ≡ sentencesIn y v + sentencesAt x b) × ((f : ℕ) → Inner x b → firstIn x f (g v) ≡ firstIn y f v) × ((f : ℕ) → Starts x b → (firstIn y f v ≡ f) × (length (encodings x (g v)) ≡ firstIn x f (g v)))
 
@@ -282,7 +282,7 @@ keep-conditions ConditionMark.other d x b s = tt
 keep-conditions ConditionMark.condition d x b s = spanned-next (Keeps (Stack.conditions d x) b) s _ (λ q v. (omega arith, omega arith, λ f i. refl, λ f z. absurd z))
 keep-conditions ConditionMark.result d x b s = λ v. (omega arith, omega arith, λ f i. refl, λ f z. absurd z)
 
--- a sentence of a function's own, and one of a block
+-- A sentence of a function's own, and one of a block.
 keep-sentence : (d : ℕ) (x : Stack) (b : ℕ) (h : Head) → b ≡ 10 → Keeps (Stack.sentences d x) b (Stack.terms Mode.pattern d (Stack.conditions d (Stack.sentences d x))) (λ v. (Sentences.sentence h (v .0) (v .1 .0) (v .1 .1 .0) (v .1 .1 .1 .0), v .1 .1 .1 .1))
 unfolding sentenceCount
 keep-sentence zero x b h e v = (omega arith, rw (eq-eqb b 10 e) (omega arith), λ f i. refl, λ f z. absurd z)
@@ -348,7 +348,7 @@ keep-turn (Stack.counted x) b s = keep-counted b b x
 pub fit-next : (x y : Stack) (b : ℕ) (s : List ℕ) (k : ℕ) (g : Values y → Values x) → turn x b s ≡ Turn.go y k g → Fit x → Fit y
 fit-next x y b s k g e h = subst (Next (λ z f. Fit z)) e (fit-turn x b s h)
 
--- the tally, with nf functions and ns sentences passed
+-- The tally, with nf functions and ns sentences passed.
 abbrev pub tallyIn : (x : Stack) → ℕ → ℕ → ℕ → ℕ → Read (Values x) → Tally
 tallyIn x l nf ns f (Read.refused n k) = Tally.Refused (refusal n (l - k))
 tallyIn x l nf ns f (Read.value v) = Tally.Counted (counts (nf + functionsIn x v) (ns + sentencesIn x v) (firstIn x f v))
@@ -382,7 +382,7 @@ firstAt (Stack.code x) b left f = f
 firstAt (Stack.visibility x) b left f = f
 firstAt (Stack.counted x) b left f = f
 
--- the first function's mark, or not
+-- The first function's mark, or not.
 which : (x : Stack) (b left f : ℕ) → ((firstAt x b left f ≡ f) × Inner x b) ⊎ ((firstAt x b left f ≡ left) × Starts x b)
 which Stack.any b left f = inl (refl, tt)
 which Stack.body b left f = by (eqb b 18) refl

@@ -13,7 +13,7 @@ use Rattle.image.specs.declared.reader.Frame.{Frame}
 use Rattle.image.specs.declared.reader.Push.{Push}
 use Rattle.image.specs.declared.reader.Step.{Step}
 
--- a refusal with its place, and none as number 0
+-- A refusal with its place, and none as number 0.
 abbrev pub refusal : ℕ → ℕ → Refusal
 refusal n p = record { number = n; place = p }
 
@@ -21,7 +21,7 @@ unfoldable pub refusalOf : ℕ → Scan → Refusal
 refusalOf l (Scan.refuse n k) = refusal n (l - k)
 refusalOf l Scan.good = refusal 0 0
 
--- what is wrong with the span at p
+-- What is wrong with the span at p.
 unfoldable pub spanRefusal : List ℕ → ℕ → Refusal
 spanRefusal b p =
     pick (ltb (length b) (p + 8)) (refusal 5 (length b))
@@ -33,7 +33,7 @@ frame k a = record { kind = k; arg = a }
 abbrev pub push : ℕ → ℕ → Frame → Frame → Frame → Frame → Push
 push to n e0 e1 e2 e3 = record { to = to; n = n; e0 = e0; e1 = e1; e2 = e2; e3 = e3 }
 
--- no refusal: go on
+-- No refusal: go on.
 unfoldable pub stepOf : Refusal → Push → Step
 stepOf f g = pick (eqb (f .number) 0) (Step.Go g) (Step.Refuse f)
 
@@ -65,7 +65,7 @@ kindOn k a x =
     (pick (eqb k 9) (Stack.code x)
     (pick (eqb k 10) (Stack.visibility x) (Stack.counted x)))))))))
 
--- the kind of terms at a mode
+-- The kind of terms at a mode.
 abbrev pub termsKind : Mode → ℕ
 termsKind Mode.result = 2
 termsKind Mode.pattern = 3
@@ -84,16 +84,16 @@ frames (suc (suc zero)) e0 e1 e2 e3 x = frameOn e1 (frameOn e0 x)
 frames (suc (suc (suc zero))) e0 e1 e2 e3 x = frameOn e2 (frameOn e1 (frameOn e0 x))
 frames (suc (suc (suc (suc n)))) e0 e1 e2 e3 x = frameOn e3 (frameOn e2 (frameOn e1 (frameOn e0 x)))
 
--- the frames that a push puts on x
+-- The frames that a push puts on x.
 abbrev pub pushed : Push → Stack → Stack
 pushed g x = frames (g .n) (g .e0) (g .e1) (g .e2) (g .e3) x
 
--- at p, with the stack y, the automaton refuses as f says
+-- At p, with the stack y, the automaton refuses as f says.
 pub record Refuses (b : List ℕ) (p : ℕ) (y : Stack) (f : Refusal) : Type 0 where
   pub within : f .place ≤ length b
   pub is : turn y (getD b p 0) (drop (suc p) b) ≡ Turn.refuse (f .number) (length b - f .place)
 
--- it goes on as g says, with g's frames on x
+-- It goes on as g says, with g's frames on x.
 pub record Goes (b : List ℕ) (p : ℕ) (y x : Stack) (g : Push) : Type 0 where
   pub ahead : p < g .to
   pub within : g .to ≤ length b
@@ -105,15 +105,15 @@ abbrev pub DoesAt : List ℕ → ℕ → Stack → Stack → Step → Type 0
 DoesAt b p y x (Step.Refuse f) = Refuses b p y f
 DoesAt b p y x (Step.Go g) = Goes b p y x g
 
--- with the frame e on top, whatever lies below
+-- With the frame e on top, whatever lies below.
 abbrev pub Does : List ℕ → ℕ → Frame → Step → Type 0
 Does b p e r = (x : Stack) → DoesAt b p (frameOn e x) x r
 
--- what lies below all frames: declarations and functions, or functions only
+-- What lies below all frames: declarations and functions, or functions only.
 abbrev pub bottom : ℕ → Stack
 bottom zero = Stack.body
 bottom (suc n) = Stack.functions
 
--- after the mark of a function there are functions only
+-- After the mark of a function there are functions only.
 abbrev pub bottomAfter : ℕ → ℕ → ℕ
 bottomAfter m k = pick (eqb m 18) 1 k

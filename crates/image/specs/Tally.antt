@@ -27,21 +27,21 @@ unfoldable pub tallyOf : ℕ → Read Program → Tally
 tallyOf l (Read.refused n k) = Tally.Refused (refusal n (l - k))
 tallyOf l (Read.value w) = Tally.Counted (counts (length (w .functions)) (ownSentenceCount (w .functions)) (length (putFunctions (w .functions))))
 
--- a frame in one number
+-- A frame in one number.
 abbrev pub unpacked : ℕ → Frame
 unpacked c = frame (c / 256) (c % 256)
 
--- the stack that n numbers are, on a bottom
+-- The stack that n numbers are, on a bottom.
 abbrev pub stackOf : ℕ → List ℕ → ℕ → Stack
 stackOf k s zero = bottom k
 stackOf k s (suc n) = frameOn (unpacked (getD s n 0)) (stackOf k s n)
 
--- the frame on top of n
+-- The frame on top of n.
 abbrev pub topOf : List ℕ → ℕ → Frame
 topOf s zero = frame 0 0
 topOf s (suc n) = unpacked (getD s n 0)
 
--- t is s with the frames of g from i on
+-- T is s with the frames of g from i on.
 pub record Stored (s : List ℕ) (i : ℕ) (g : Push) (t : List ℕ) : Type 0 where
   pub c0 : ℕ
   pub c1 : ℕ
@@ -53,12 +53,12 @@ pub record Stored (s : List ℕ) (i : ℕ) (g : Push) (t : List ℕ) : Type 0 wh
   pub is3 : unpacked c3 ≡ g .e3
   pub is : t ≡ set (set (set (set s i c0) (i + 1) c1) (i + 2) c2) (i + 3) c3
 
--- a turn with n frames on the bottom k, e on top
+-- A turn with n frames on the bottom k, e on top.
 abbrev pub TurnDoes : List ℕ → ℕ → ℕ → ℕ → Frame → Step → Type 0
 TurnDoes b p k zero e r = DoesAt b p (bottom k) (bottom (bottomAfter (getD b p 0) k)) r
 TurnDoes b p k (suc n) e r = Does b p e r
 
--- what the byte m adds to the counts, and the bottom after it, with n frames on the bottom k and e on top
+-- What the byte m adds to the counts, and the bottom after it, with n frames on the bottom k and e on top.
 abbrev pub functionOne : ℕ → ℕ → ℕ
 functionOne zero m = pick (eqb m 18) 1 0
 functionOne (suc n) m = 0
@@ -77,7 +77,7 @@ firstNext zero m zero left f = pick (eqb m 18) left f
 firstNext zero m (suc k) left f = f
 firstNext (suc n) m k left f = f
 
--- an image's answer without its program
+-- An image's answer without its program.
 unfoldable pub checkedOf : Answer → Checked
 checkedOf (Answer.refused n p) = Checked.Refused (refusal n p)
 checkedOf (Answer.accepted w) = Checked.Accepted

@@ -178,6 +178,15 @@ fn named(b: &[u8], p: usize, number: bool, n: usize, e0: Frame) -> Step
     }
 }
 
+// A term that is its span and one field of a kind, before more terms.
+fn with_field(b: &[u8], p: usize, t: Frame, kind: u8) -> Step
+    requires { ⌜ p < length (now b) ⌝ }
+    ensures { λ r. ⌜ r ≡ spanStep (now (b .entry)) p 2 t (frame kind 0) t t ⌝ }
+{
+    let f = Frame { kind, arg: 0 };
+    spanned(b, p, 2, t, f, t, t)
+}
+
 // The refusal that a call or a block meets where it stands, 0 for none: in a pattern, then too deep.
 fn barred(kind: u8, d: u8) -> u8
     ensures { λ r. ⌜ r ≡ barredAs kind d ⌝ }
@@ -196,23 +205,12 @@ fn turn_terms(b: &[u8], p: usize, kind: u8, d: u8) -> Step
     let t = Frame { kind, arg: d };
     let m = b[p];
     match m {
-        1 => spanned(b, p, 2, t, Frame { kind: CODE, arg: 0 }, t, t),
-        2 => spanned(b, p, 2, t, Frame { kind: NAME, arg: 0 }, t, t),
-        3 => spanned(
-            b,
-            p,
-            2,
-            t,
-            Frame {
-                kind: NUMBER,
-                arg: 0,
-            },
-            t,
-            t,
-        ),
-        4 => spanned(b, p, 2, t, Frame { kind: NAME, arg: 0 }, t, t),
-        5 => spanned(b, p, 2, t, Frame { kind: NAME, arg: 0 }, t, t),
-        6 => spanned(b, p, 2, t, Frame { kind: NAME, arg: 0 }, t, t),
+        1 => with_field(b, p, t, CODE),
+        2 => with_field(b, p, t, NAME),
+        3 => with_field(b, p, t, NUMBER),
+        4 => with_field(b, p, t, NAME),
+        5 => with_field(b, p, t, NAME),
+        6 => with_field(b, p, t, NAME),
         7 => {
             if d < 32 {
                 spanned(b, p, 2, t, Frame { kind, arg: d + 1 }, t, t)

@@ -9,29 +9,29 @@ use Rattle.image.proofs.reader.turn_terms.Tie as tie
 shared-slice-read-m : tie.Need-shared-slice-read-m
 shared-slice-read-m c = search needs
 
+with-field-requires : tie.Need-with-field-requires
+with-field-requires c κs = search needs
+
+with-field-requires-2 : tie.Need-with-field-requires-2
+with-field-requires-2 c κs = search needs
+
+with-field-requires-3 : tie.Need-with-field-requires-3
+with-field-requires-3 c κs = search needs
+
+with-field-requires-4 : tie.Need-with-field-requires-4
+with-field-requires-4 c κs = search needs
+
+with-field-requires-5 : tie.Need-with-field-requires-5
+with-field-requires-5 c κs = search needs
+
+with-field-requires-6 : tie.Need-with-field-requires-6
+with-field-requires-6 c κs = search needs
+
+add-t14 : tie.Need-add-t14
+add-t14 c = search needs
+
 spanned-requires : tie.Need-spanned-requires
 spanned-requires c κs = search needs
-
-spanned-requires-2 : tie.Need-spanned-requires-2
-spanned-requires-2 c κs = search needs
-
-spanned-requires-3 : tie.Need-spanned-requires-3
-spanned-requires-3 c κs = search needs
-
-spanned-requires-4 : tie.Need-spanned-requires-4
-spanned-requires-4 c κs = search needs
-
-spanned-requires-5 : tie.Need-spanned-requires-5
-spanned-requires-5 c κs = search needs
-
-spanned-requires-6 : tie.Need-spanned-requires-6
-spanned-requires-6 c κs = search needs
-
-add-t20 : tie.Need-add-t20
-add-t20 c = search needs
-
-spanned-requires-7 : tie.Need-spanned-requires-7
-spanned-requires-7 c κs = search needs
 
 refuse-requires : tie.Need-refuse-requires
 refuse-requires c κs = search needs
@@ -39,11 +39,11 @@ refuse-requires c κs = search needs
 barred-requires : tie.Need-barred-requires
 barred-requires c κs = search needs
 
-add-t24 : tie.Need-add-t24
-add-t24 c = let z = barred-none _ _ _ (c .before .barred .ensures) (c .if2 .taken) in omega (arith, z .1)
+add-t18 : tie.Need-add-t18
+add-t18 c = let z = barred-none _ _ _ (c .before .barred .ensures) (c .if2 .taken) in omega (arith, z .1)
 
-spanned-requires-8 : tie.Need-spanned-requires-8
-spanned-requires-8 c κs = search needs
+spanned-requires-2 : tie.Need-spanned-requires-2
+spanned-requires-2 c κs = search needs
 
 refuse-requires-2 : tie.Need-refuse-requires-2
 refuse-requires-2 c κs = search needs
@@ -51,14 +51,14 @@ refuse-requires-2 c κs = search needs
 barred-requires-2 : tie.Need-barred-requires-2
 barred-requires-2 c κs = search needs
 
-add-t29 : tie.Need-add-t29
-add-t29 c = let z = barred-none _ _ _ (c .before .barred2 .ensures) (c .if3 .taken) in omega (arith, z .1)
+add-t23 : tie.Need-add-t23
+add-t23 c = let z = barred-none _ _ _ (c .before .barred2 .ensures) (c .if3 .taken) in omega (arith, z .1)
 
-add-t31 : tie.Need-add-t31
-add-t31 c = let z = barred-none _ _ _ (c .before .barred2 .ensures) (c .if3 .taken) in omega (arith, z .1)
+add-t25 : tie.Need-add-t25
+add-t25 c = let z = barred-none _ _ _ (c .before .barred2 .ensures) (c .if3 .taken) in omega (arith, z .1)
 
-spanned-requires-9 : tie.Need-spanned-requires-9
-spanned-requires-9 c κs = search needs
+spanned-requires-3 : tie.Need-spanned-requires-3
+spanned-requires-3 c κs = search needs
 
 refuse-requires-3 : tie.Need-refuse-requires-3
 refuse-requires-3 c κs = search needs
@@ -73,37 +73,37 @@ refuse-requires-4 : tie.Need-refuse-requires-4
 refuse-requires-4 c κs = search needs
 
 returns : tie.Need-returns
-returns c = turn-character _ _ _ _ (c .before .before .before .before .pre .0) (c .before .before .before .before .pre .1) (c .before .match .keys1) _ (c .spanned .ensures)
+returns c = turn-character _ _ _ _ (c .before .before .before .before .pre .0) (c .before .before .before .before .pre .1) (c .before .match .keys1) _ (c .with-field .ensures)
 
 returns-2 : tie.Need-returns-2
-returns-2 c = turn-word _ _ _ _ (c .before .before .before .before .pre .0) (c .before .before .before .before .pre .1) (inl (c .before .match .keys2)) _ (c .spanned2 .ensures)
+returns-2 c = turn-word _ _ _ _ (c .before .before .before .before .pre .0) (c .before .before .before .before .pre .1) (inl (c .before .match .keys2)) _ (c .with-field2 .ensures)
 
 returns-3 : tie.Need-returns-3
-returns-3 c = turn-number _ _ _ _ (c .before .before .before .before .pre .0) (c .before .before .before .before .pre .1) (c .before .match .keys3) _ (c .spanned3 .ensures)
+returns-3 c = turn-number _ _ _ _ (c .before .before .before .before .pre .0) (c .before .before .before .before .pre .1) (c .before .match .keys3) _ (c .with-field3 .ensures)
 
 returns-4 : tie.Need-returns-4
-returns-4 c = turn-word _ _ _ _ (c .before .before .before .before .pre .0) (c .before .before .before .before .pre .1) (inr (inl (c .before .match .keys4))) _ (c .spanned4 .ensures)
+returns-4 c = turn-word _ _ _ _ (c .before .before .before .before .pre .0) (c .before .before .before .before .pre .1) (inr (inl (c .before .match .keys4))) _ (c .with-field4 .ensures)
 
 returns-5 : tie.Need-returns-5
-returns-5 c = turn-word _ _ _ _ (c .before .before .before .before .pre .0) (c .before .before .before .before .pre .1) (inr (inr (inl (c .before .match .keys5)))) _ (c .spanned5 .ensures)
+returns-5 c = turn-word _ _ _ _ (c .before .before .before .before .pre .0) (c .before .before .before .before .pre .1) (inr (inr (inl (c .before .match .keys5)))) _ (c .with-field5 .ensures)
 
 returns-6 : tie.Need-returns-6
-returns-6 c = turn-word _ _ _ _ (c .before .before .before .before .pre .0) (c .before .before .before .before .pre .1) (inr (inr (inr (c .before .match .keys6)))) _ (c .spanned6 .ensures)
+returns-6 c = turn-word _ _ _ _ (c .before .before .before .before .pre .0) (c .before .before .before .before .pre .1) (inr (inr (inr (c .before .match .keys6)))) _ (c .with-field6 .ensures)
 
 returns-7 : tie.Need-returns-7
-returns-7 c = turn-bracket _ _ _ _ (c .before .before .before .before .before .pre .0) (c .before .before .before .before .before .pre .1) (c .before .before .match .keys7) (c .before .if1 .taken) _ (c .spanned7 .ensures)
+returns-7 c = turn-bracket _ _ _ _ (c .before .before .before .before .before .pre .0) (c .before .before .before .before .before .pre .1) (c .before .before .match .keys7) (c .before .if1 .taken) _ (c .spanned .ensures)
 
 returns-8 : tie.Need-returns-8
 returns-8 c = turn-deep _ _ _ _ (c .before .before .before .before .before .pre .0) (c .before .before .before .before .before .pre .1) (c .before .before .match .keys7) (c .before .if1 .left) (c .refuse .ensures)
 
 returns-9 : tie.Need-returns-9
-returns-9 c = let z = barred-none _ _ _ (c .before .before .barred .ensures) (c .before .if2 .taken) in turn-call _ _ _ _ (c .before .before .before .before .before .before .pre .0) (c .before .before .before .before .before .before .pre .1) (c .before .before .before .match .keys8) (z .0) (z .1) _ (c .spanned8 .ensures)
+returns-9 c = let z = barred-none _ _ _ (c .before .before .barred .ensures) (c .before .if2 .taken) in turn-call _ _ _ _ (c .before .before .before .before .before .before .pre .0) (c .before .before .before .before .before .before .pre .1) (c .before .before .before .match .keys8) (z .0) (z .1) _ (c .spanned2 .ensures)
 
 returns-10 : tie.Need-returns-10
 returns-10 c = turn-barred _ _ _ _ (c .before .before .before .before .before .before .pre .0) (c .before .before .before .before .before .before .pre .1) (inl (c .before .before .before .match .keys8)) _ (c .before .before .barred .ensures) (c .before .if2 .left) (c .refuse2 .ensures)
 
 returns-11 : tie.Need-returns-11
-returns-11 c = let z = barred-none _ _ _ (c .before .before .barred2 .ensures) (c .before .if3 .taken) in turn-block _ _ _ _ (c .before .before .before .before .before .before .pre .0) (c .before .before .before .before .before .before .pre .1) (c .before .before .before .match .keys9) (z .0) (z .1) _ (c .spanned9 .ensures)
+returns-11 c = let z = barred-none _ _ _ (c .before .before .barred2 .ensures) (c .before .if3 .taken) in turn-block _ _ _ _ (c .before .before .before .before .before .before .pre .0) (c .before .before .before .before .before .before .pre .1) (c .before .before .before .match .keys9) (z .0) (z .1) _ (c .spanned3 .ensures)
 
 returns-12 : tie.Need-returns-12
 returns-12 c = turn-barred _ _ _ _ (c .before .before .before .before .before .before .pre .0) (c .before .before .before .before .before .before .pre .1) (inr (c .before .before .before .match .keys9)) _ (c .before .before .barred2 .ensures) (c .before .if3 .left) (c .refuse3 .ensures)
@@ -119,23 +119,23 @@ turn-terms-spec =
     tie.close
     (tie.spec
     shared-slice-read-m
+    with-field-requires
+    with-field-requires-2
+    with-field-requires-3
+    with-field-requires-4
+    with-field-requires-5
+    with-field-requires-6
+    add-t14
     spanned-requires
-    spanned-requires-2
-    spanned-requires-3
-    spanned-requires-4
-    spanned-requires-5
-    spanned-requires-6
-    add-t20
-    spanned-requires-7
     refuse-requires
     barred-requires
-    add-t24
-    spanned-requires-8
+    add-t18
+    spanned-requires-2
     refuse-requires-2
     barred-requires-2
-    add-t29
-    add-t31
-    spanned-requires-9
+    add-t23
+    add-t25
+    spanned-requires-3
     refuse-requires-3
     add-go
     go-requires

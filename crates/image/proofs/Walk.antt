@@ -62,7 +62,7 @@ fit-height (Stack.code x) h = omega arith
 fit-height (Stack.visibility x) h = omega arith
 fit-height (Stack.counted x) h = omega arith
 
--- P holds of what a turn goes on to
+-- P holds of what a turn goes on to.
 abbrev Next : {A : Type 0} → ((y : Stack) → (Values y → A) → Type 0) → Turn A → Type 0
 Next P (Turn.refuse n l) = Unit {0}
 Next P (Turn.done a) = Unit {0}

@@ -41,7 +41,7 @@ abbrev pub topOf : List ℕ → ℕ → Frame
 topOf s zero = frame 0 0
 topOf s (suc n) = unpacked (getD s n 0)
 
--- T is s with the frames of g from i on.
+-- The list t is s with the frames of g from i on.
 pub record Stored (s : List ℕ) (i : ℕ) (g : Push) (t : List ℕ) : Type 0 where
   pub c0 : ℕ
   pub c1 : ℕ

@@ -11,7 +11,7 @@ use Rattle.overlap.specs.declared.Verdict.the-variants.{Disjoint, Overlap, Unkn
 use Rattle.overlap.specs.Search.{patternsOverlap, spent}
 use Rattle.cleaner.specs.declared.OverlapAnswer.{OverlapAnswer}
 
--- "A refusal returns its number and a place".
+-- A refusal, as the code has it.
 abbrev pub overlapRefused : ℕ → ℕ → OverlapAnswer
 overlapRefused n p = OverlapAnswer.Refused (record { number = n; place = p })
 
@@ -44,11 +44,19 @@ pub record OverlapValues : Type 0 where
   pub verdict : ℕ
   pub spent : ℕ
 
+-- "A refusal returns its number and a place".
+abbrev pub refusalValues : ℕ → ℕ → OverlapValues
+refusalValues n p = record { number = n; place = p; verdict = 0; spent = 0 }
+
+-- "It returns 0, the verdict, and the entries spent by the outermost pair."
+abbrev pub comparisonValues : ℕ → ℕ → OverlapValues
+comparisonValues v n = record { number = 0; place = 0; verdict = v; spent = n }
+
 unfoldable pub verdictNumber : Verdict → ℕ
 verdictNumber Disjoint = 0
 verdictNumber Overlap = 1
 verdictNumber Unknown = 2
 
 unfoldable pub overlapValues : OverlapAnswer → OverlapValues
-overlapValues (OverlapAnswer.Compared c) = record { number = 0; place = 0; verdict = verdictNumber (c .verdict); spent = c .spent }
-overlapValues (OverlapAnswer.Refused r) = record { number = r .number; place = r .place; verdict = 0; spent = 0 }
+overlapValues (OverlapAnswer.Compared c) = comparisonValues (verdictNumber (c .verdict)) (c .spent)
+overlapValues (OverlapAnswer.Refused r) = refusalValues (r .number) (r .place)

@@ -1,6 +1,6 @@
 -- What the entry points promise, one page: each promise is a theorem, proved by citing.
--- The code meets these definitions: `cleaner::overlap` ensures `r ≡ overlapAnswer image first second` for every image and numbers, with no `requires`.
-use Prim.Native.Nat.{ℕ, _-_}
+-- The code meets these definitions: `cleaner::overlap` ensures `r ≡ overlapAnswer image first second` for every image and numbers, with no `requires`, and `overlapValues` gives document 01's numbers for it.
+use Prim.Native.Nat.{ℕ, _-_, _≤_}
 use mathlib.Core.Path.{_≡_, refl, sym, ap, _∙_}
 use mathlib.Core.Bool.{Bool, true, false}
 use mathlib.Core.List.{List}
@@ -16,48 +16,53 @@ use Rattle.image.specs.Parts.{Sentence, ownSentences}
 use Rattle.image.proofs.Numbers.{Bytes}
 use Rattle.image.proofs.RoundTrip.{decodes, encode-decode}
 use Rattle.image.proofs.Own.{numbered-valid}
+use Rattle.image.proofs.Listed.{refusals-listed}
 use Rattle.overlap.specs.declared.Verdict.the-variants.{Disjoint, Overlap, Unknown}
 use Rattle.overlap.specs.Expression.{Expression}
 use Rattle.overlap.specs.Fresh.{Fresh}
 use Rattle.overlap.specs.Plain.{Plain}
-use Rattle.overlap.specs.Search.{patternsOverlap, start}
+use Rattle.overlap.specs.Search.{patternsOverlap, start, spent}
 use Rattle.overlap.specs.Meet.{meet}
 use Rattle.overlap.specs.Dry.{Dry}
 use Rattle.overlap.proofs.Plain.{valid-plain}
 use Rattle.overlap.proofs.Disjoint.{disjoint-sound}
 use Rattle.overlap.proofs.Overlap.{overlap-sound}
 use Rattle.overlap.proofs.Unknown.{unknown-dry}
-use Rattle.cleaner.specs.Answers.{overlapRefused, comparePatterns, compareFound, compareSentences, overlapOf, overlapAnswer}
+use Rattle.cleaner.specs.Answers.{comparePatterns, compareFound, compareSentences, overlapOf, overlapAnswer, refusalValues, comparisonValues, verdictNumber, overlapValues}
 
 -- ---- Demand 1: "an accepted answer or one of refusals 1 to 13, each on its listed condition and on no other". The conditions, in order:
 
 module _ (image : List ℕ) (first second : ℕ) where
-  pub refused-1 : sized image ≡ false → overlapAnswer image first second ≡ overlapRefused 1 0
-  unfolding overlapAnswer overlapOf decode
+  pub refused-1 : sized image ≡ false → overlapValues (overlapAnswer image first second) ≡ refusalValues 1 0
+  unfolding overlapValues overlapAnswer overlapOf decode
   refused-1 h = rw h
 
-  pub refused-4 : sized image ≡ true → pointed image ≡ false → overlapAnswer image first second ≡ overlapRefused 4 0
-  unfolding overlapAnswer overlapOf decode decodeSized
+  pub refused-4 : sized image ≡ true → pointed image ≡ false → overlapValues (overlapAnswer image first second) ≡ refusalValues 4 0
+  unfolding overlapValues overlapAnswer overlapOf decode decodeSized
   refused-4 h k = rw (h, k)
 
   -- 5 to 10, at the earliest place: reading the body gives the number, and how many of its bytes are left from the place on.
   pub refused-5-to-10 : (number left : ℕ) → sized image ≡ true → pointed image ≡ true → run Stack.body 0 (take (bodyLength image) image) ≡ Read.refused number left
-      → overlapAnswer image first second ≡ overlapRefused number (bodyLength image - left)
-  unfolding overlapAnswer overlapOf decode decodeSized settled
+      → overlapValues (overlapAnswer image first second) ≡ refusalValues number (bodyLength image - left)
+  unfolding overlapValues overlapAnswer overlapOf decode decodeSized settled
   refused-5-to-10 n l h k e = rw (h, k, e)
 
+  -- No other number comes from reading, and the place is within the body.
+  pub only-5-to-10 : (number left : ℕ) → run Stack.body 0 (take (bodyLength image) image) ≡ Read.refused number left → (5 ≤ number) × (number ≤ 10) × (left ≤ length (take (bodyLength image) image))
+  only-5-to-10 n l e = refusals-listed (take (bodyLength image) image) Stack.body n l e
+
   pub refused-11 : (w : Program) → sized image ≡ true → pointed image ≡ true → run Stack.body 0 (take (bodyLength image) image) ≡ Read.value w → agrees image w ≡ false
-      → overlapAnswer image first second ≡ overlapRefused 11 0
-  unfolding overlapAnswer overlapOf decode decodeSized settled
+      → overlapValues (overlapAnswer image first second) ≡ refusalValues 11 0
+  unfolding overlapValues overlapAnswer overlapOf decode decodeSized settled
   refused-11 w h k e a = rw (h, k, e, a)
 
-  pub refused-13 : (w : Program) → decode image ≡ Answer.accepted w → getElem? (ownSentences (w .functions)) first ≡ none → overlapAnswer image first second ≡ overlapRefused 13 0
-  unfolding overlapAnswer overlapOf compareSentences compareFound
+  pub refused-13 : (w : Program) → decode image ≡ Answer.accepted w → getElem? (ownSentences (w .functions)) first ≡ none → overlapValues (overlapAnswer image first second) ≡ refusalValues 13 0
+  unfolding overlapValues overlapAnswer overlapOf compareSentences compareFound
   refused-13 w e a = rw (e, a)
 
   pub refused-13-second : (w : Program) (x : Sentence) → decode image ≡ Answer.accepted w → getElem? (ownSentences (w .functions)) first ≡ some x → getElem? (ownSentences (w .functions)) second ≡ none
-      → overlapAnswer image first second ≡ overlapRefused 13 0
-  unfolding overlapAnswer overlapOf compareSentences compareFound
+      → overlapValues (overlapAnswer image first second) ≡ refusalValues 13 0
+  unfolding overlapValues overlapAnswer overlapOf compareSentences compareFound
   refused-13-second w x e a b = rw (e, a, b)
 
 -- An image is accepted as a program exactly if it is the program's encoding and the program is within the limits.
@@ -76,8 +81,8 @@ pub record Compared (image : List ℕ) (first second : ℕ) (x y : Sentence) : T
 
 module _ {image : List ℕ} {first second : ℕ} {x y : Sentence} (c : Compared image first second x y) where
   -- "It returns 0, the verdict, and the entries spent by the outermost pair."
-  pub answered : overlapAnswer image first second ≡ comparePatterns (x .pattern) (y .pattern)
-  unfolding overlapAnswer overlapOf compareSentences compareFound
+  pub answered : overlapValues (overlapAnswer image first second) ≡ comparisonValues (verdictNumber (patternsOverlap (x .pattern) (y .pattern))) (spent (x .pattern) (y .pattern))
+  unfolding overlapValues overlapAnswer overlapOf compareSentences compareFound comparePatterns
   answered = rw (c .accepted, c .first-is, c .second-is)
 
   plain-first : Plain (x .pattern)

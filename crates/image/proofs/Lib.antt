@@ -17,3 +17,4 @@ pub mod Accepted
 pub mod Finding
 pub mod Examples
 pub mod Own
+pub mod Listed

@@ -1,3 +1,9 @@
+pub mod Fill
+pub mod Codes
+pub mod Leaves
+pub mod Terms
+pub mod Again
+pub mod Held
 pub mod Decimal
 pub mod Computing
 pub mod Examples

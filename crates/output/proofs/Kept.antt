@@ -1,0 +1,118 @@
+-- A program with sentences left out is again one that an image can hold, and no longer than before.
+use Prim.Native.Nat.{ℕ, suc, _+_, _≤_, _<_}
+use native.Mathlib.Omega.{arith}
+use native.Mathlib.Nat.{le-trans}
+use mathlib.Core.Path.{_≡_, refl, sym, ap, _∙_}
+use mathlib.Core.Bool.{Bool, true, false, cond}
+use mathlib.Core.List.{List, [], _∷_}
+use lib.ListN.{length, length-append}
+use Rattle.image.specs.Syntax.{Head, Terms, Conditions, Sentences, Function, Program}
+use Rattle.image.specs.Bytes.{putName}
+use Rattle.image.specs.Encode.{putHead, putTerms, putConditions, putSentences, visibilityByte, putFunction, putFunctions, putDeclarations, putBody, sentenceCount, ownSentenceCount, encode}
+use Rattle.image.specs.Parts.{Sentence, putSentence, Accepted}
+use Rattle.image.specs.Limits.{Valid, ValidSentences, ValidFunctions}
+use Rattle.image.specs.Decode.{Answer, decode}
+use Rattle.image.proofs.Numbers.{Bytes}
+use Rattle.image.proofs.Lengths.{span-length, name-length, encode-length}
+use Rattle.image.proofs.RoundTrip.{decode-encode, encode-decode}
+use Rattle.output.specs.Output.{keptSentences, keptFunction, keptFunctions, keptProgram}
+use Rattle.output.proofs.Splits.{sentence-splits, declarations-splits}
+
+-- how many functions there are does not change
+pub kept-functions : (keep : ℕ → Bool) (i : ℕ) (fs : List Function) → length (keptFunctions keep i fs) ≡ length fs
+unfolding keptFunctions
+kept-functions keep i [] = refl
+kept-functions keep i (f ∷ fs) = ap suc (kept-functions keep (i + sentenceCount (f .sentences)) fs)
+
+-- validity
+valid-sentences : (b : Sentences) (keep : ℕ → Bool) (i : ℕ) → ValidSentences b 0 → ValidSentences (keptSentences keep i b) 0
+unfolding keptSentences
+valid-sentences Sentences.empty keep i v = v
+valid-sentences (Sentences.sentence h p c r b) keep i v = by (keep i) (valid-sentences b keep (suc i) (v .4))
+  where
+    by : (t : Bool) → ValidSentences (keptSentences keep (suc i) b) 0 → ValidSentences (cond t (Sentences.sentence h p c r (keptSentences keep (suc i) b)) (keptSentences keep (suc i) b)) 0
+    by true u = (v .0, v .1, v .2, v .3, u)
+    by false u = u
+
+valid-functions : (fs : List Function) (keep : ℕ → Bool) (i : ℕ) → ValidFunctions fs → ValidFunctions (keptFunctions keep i fs)
+unfolding keptFunctions keptFunction
+valid-functions [] keep i v = v
+valid-functions (f ∷ fs) keep i v = (v .0, v .1, valid-sentences (f .sentences) keep i (v .2), valid-functions fs keep (i + sentenceCount (f .sentences)) (v .3))
+
+-- lengths, whatever follows
+sentence-more : (h : Head) (p : Terms) (c : Conditions) (r : Terms) (b : Sentences) (a k : List ℕ) → length a ≤ length (putSentences b k)
+    → length (putHead h (putTerms p (putConditions c (12 ∷ putTerms r a)))) ≤ length (putSentences (Sentences.sentence h p c r b) k)
+unfolding putSentences putSentence
+sentence-more h p c r b a k l =
+    let x : Sentence = record { head = h; pattern = p; conditions = c; result = r } in
+    omega (arith, l, ap length (sentence-splits x a), ap length (sentence-splits x (putSentences b k)), length-append (putSentence x []) a, length-append (putSentence x []) (putSentences b k))
+
+rest-shorter : (h : Head) (p : Terms) (c : Conditions) (r : Terms) (b : Sentences) (k : List ℕ) → length (putSentences b k) ≤ length (putSentences (Sentences.sentence h p c r b) k)
+unfolding putSentences putSentence
+rest-shorter h p c r b k =
+    let x : Sentence = record { head = h; pattern = p; conditions = c; result = r } in
+    omega (arith, ap length (sentence-splits x (putSentences b k)), length-append (putSentence x []) (putSentences b k))
+
+sentences-shorter : (b : Sentences) (keep : ℕ → Bool) (i : ℕ) (a k : List ℕ) → length a ≤ length k → length (putSentences (keptSentences keep i b) a) ≤ length (putSentences b k)
+unfolding putSentences keptSentences
+sentences-shorter Sentences.empty keep i a k l = omega (arith, l)
+sentences-shorter (Sentences.sentence h p c r b) keep i a k l = by (keep i) (sentences-shorter b keep (suc i) a k l)
+  where
+    by : (t : Bool) → length (putSentences (keptSentences keep (suc i) b) a) ≤ length (putSentences b k)
+        → length (putSentences (cond t (Sentences.sentence h p c r (keptSentences keep (suc i) b)) (keptSentences keep (suc i) b)) a) ≤ length (putSentences (Sentences.sentence h p c r b) k)
+    by true u = sentence-more h p c r b (putSentences (keptSentences keep (suc i) b) a) k u
+    by false u = le-trans u (rest-shorter h p c r b k)
+
+pub functions-shorter : (fs : List Function) (keep : ℕ → Bool) (i : ℕ) → length (putFunctions (keptFunctions keep i fs)) ≤ length (putFunctions fs)
+unfolding putFunctions putFunction keptFunctions keptFunction
+functions-shorter [] keep i = omega arith
+functions-shorter (f ∷ fs) keep i =
+    let a : List ℕ = putFunctions (keptFunctions keep (i + sentenceCount (f .sentences)) fs) in
+    let s1 : List ℕ = putSentences (keptSentences keep i (f .sentences)) a in
+    let s2 : List ℕ = putSentences (f .sentences) (putFunctions fs) in
+    let v : ℕ = visibilityByte (f .visibility) in
+    let u = sentences-shorter (f .sentences) keep i a (putFunctions fs) (functions-shorter fs keep (i + sentenceCount (f .sentences))) in
+    omega (arith, u, span-length (f .span) (v ∷ putName (f .name) s1), span-length (f .span) (v ∷ putName (f .name) s2), name-length (f .name) s1, name-length (f .name) s2)
+
+pub kept-shorter : (keep : ℕ → Bool) (w : Program) → length (encode (keptProgram keep w)) ≤ length (encode w)
+unfolding putBody keptProgram
+kept-shorter keep w =
+    let k : List ℕ = putFunctions (keptFunctions keep 0 (w .functions)) in
+    let d : List ℕ = putDeclarations (w .declarations) [] in
+    omega
+    (arith, functions-shorter (w .functions) keep 0, encode-length w, encode-length (keptProgram keep w), ap length (declarations-splits (w .declarations) k), ap length (declarations-splits (w .declarations) (putFunctions (w .functions))), length-append d k, length-append d (putFunctions (w .functions)))
+
+pub kept-valid : (keep : ℕ → Bool) (w : Program) → Valid w → Valid (keptProgram keep w)
+unfolding keptProgram
+kept-valid keep w v = ((v .0 .0, valid-functions (w .functions) keep 0 (v .0 .1)), le-trans (kept-shorter keep w) (v .1))
+
+-- What Clean writes is again an accepted image, and its program is the one with the sentences left out.
+pub kept-accepted : (keep : ℕ → Bool) (w : Program) → Valid w → decode (encode (keptProgram keep w)) ≡ Answer.accepted (keptProgram keep w)
+kept-accepted keep w v = decode-encode (keptProgram keep w) (kept-valid keep w v)
+
+-- Where every sentence is kept, the program is the same.
+all-sentences : (b : Sentences) (keep : ℕ → Bool) (i : ℕ) → ((j : ℕ) → j < i + sentenceCount b → keep j ≡ true) → keptSentences keep i b ≡ b
+unfolding keptSentences sentenceCount
+all-sentences Sentences.empty keep i h = refl
+all-sentences (Sentences.sentence a p c r b) keep i h =
+    ap (λ (t : Bool). cond t (Sentences.sentence a p c r (keptSentences keep (suc i) b)) (keptSentences keep (suc i) b)) (h i (omega arith))
+    ∙ ap (Sentences.sentence a p c r) (all-sentences b keep (suc i) (λ j l. h j (omega (arith, l))))
+
+all-functions : (fs : List Function) (keep : ℕ → Bool) (i : ℕ) → ((j : ℕ) → j < i + ownSentenceCount fs → keep j ≡ true) → keptFunctions keep i fs ≡ fs
+unfolding keptFunctions keptFunction ownSentenceCount
+all-functions [] keep i h = refl
+all-functions (f ∷ fs) keep i h =
+    ap (λ (b : Sentences). record { span = f .span; visibility = f .visibility; name = f .name; sentences = b } ∷ keptFunctions keep (i + sentenceCount (f .sentences)) fs) (all-sentences (f .sentences) keep i (λ j l. h j (omega (arith, l))))
+    ∙ ap (λ (l : List Function). f ∷ l) (all-functions fs keep (i + sentenceCount (f .sentences)) (λ j l. h j (omega (arith, l))))
+
+pub all-kept : (keep : ℕ → Bool) (w : Program) → ((j : ℕ) → j < ownSentenceCount (w .functions) → keep j ≡ true) → keptProgram keep w ≡ w
+unfolding keptProgram
+all-kept keep w h = ap (λ (fs : List Function). record { declarations = w .declarations; functions = fs }) (all-functions (w .functions) keep 0 (λ j l. h j (omega (arith, l))))
+
+-- Of an accepted image: what is written is accepted again, and it is the image itself where every sentence is kept.
+module _ (s : List ℕ) (bytes : Bytes s) (a : Accepted s) (keep : ℕ → Bool) where
+  pub accepted-again : decode (encode (keptProgram keep (a .program))) ≡ Answer.accepted (keptProgram keep (a .program))
+  accepted-again = kept-accepted keep (a .program) (encode-decode s (a .program) bytes (a .is) .1)
+
+  pub same-bytes : ((j : ℕ) → j < ownSentenceCount (a .program .functions) → keep j ≡ true) → encode (keptProgram keep (a .program)) ≡ s
+  same-bytes h = ap encode (all-kept keep (a .program) h) ∙ sym (encode-decode s (a .program) bytes (a .is) .0)

@@ -1,0 +1,4 @@
+pub mod Output
+pub mod Marks
+pub mod Items
+pub mod Written

@@ -1,0 +1,4 @@
+// The cleaned image.
+pub mod bytes;
+pub mod mark;
+pub mod writer;

@@ -1,4 +1,11 @@
 pub mod Equality
 pub mod Configuration
 pub mod Vocabulary
+pub mod Tokens
+pub mod Spans
+pub mod Numbering
+pub mod Scan
+pub mod Closes
+pub mod Lockstep
+pub mod Alike
 pub mod Examples

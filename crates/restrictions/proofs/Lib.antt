@@ -3,4 +3,14 @@ pub mod Repeats
 pub mod Covered
 pub mod Plain
 pub mod Earlier
+pub mod Marks
+pub mod Within
+pub mod Inside
+pub mod Calls
+pub mod Appended
+pub mod Going
+pub mod Readings
+pub mod Bytes
+pub mod Numbered
+pub mod Walking
 pub mod Examples

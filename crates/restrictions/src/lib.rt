@@ -1,1 +1,200 @@
-// Call sites and the restrictions that they put on a function.
+// Call sites and the restrictions that they make, on an image's own bytes.
+use image::part::conditions_start;
+use image::part::name_part;
+use image::part::result_start;
+use image::part::sentences_start;
+use image::part::term_len;
+use image::part::terms_len;
+ghost use mathlib.Core.Path.{_≡_};
+ghost use Prim.Native.Nat.{_<_, _≤_};
+ghost use lib.ListN.{length, drop};
+ghost use Rattle.image.specs.Encode.{putTerms};
+ghost use Rattle.image.specs.Limits.{Mode};
+ghost use Rattle.image.specs.Parts.{Passes, TermsAt, SentenceAt, ownSentences, FunctionsAt};
+ghost use Rattle.restrictions.specs.Sites.{collectCallSites, restrictionIsCharacterisable};
+ghost use Rattle.restrictions.specs.Entries.{CallAt, heldBy, entryOffset, entrySentence, Appended};
+ghost use Rattle.restrictions.specs.Records.{RecordsAt, RoomFor, Collected};
+ghost use Rattle.restrictions.specs.Numbered.{heldSites, RoomForTerms, RoomForSentence, RoomForFunctions, SentenceCollected};
+
+// Whether the terms up to the close have no call and no block; the closes still to come are counted.
+pub fn restriction_is_characterisable(s: &[u8]) -> bool
+    requires { ⌜ TermsAt Mode.result (now s) ⌝ }
+    ensures { λ r. ⌜ ((t : TermsAt Mode.result (now (s .entry))) → r ≡ restrictionIsCharacterisable (t .terms)) ⌝ }
+{
+    let mut i: usize = 0;
+    let mut closes: usize = 1;
+    loop {
+        let x = &s[i..];
+        let m = x[0];
+        match m {
+            7 => {
+                closes += 1;
+                i += 9;
+            }
+            8 => {
+                return false;
+            }
+            9 => {
+                return false;
+            }
+            15 => {
+                if closes == 1 {
+                    return true;
+                }
+                closes -= 1;
+                i += 1;
+            }
+            _ => {
+                i += term_len(x);
+            }
+        }
+    }
+}
+
+// The name of the function that the call at the start of s calls, as a part of s.
+pub fn call_name(s: &[u8]) -> &[u8]
+    requires { ⌜ CallAt (now s) ⌝ }
+    ensures { λ r. ⌜ ((x : CallAt (now (s .entry))) → now r ≡ x .callee) ⌝ }
+{
+    name_part(&s[9..])
+}
+
+// Where the argument of the call at the start of s begins.
+pub fn call_argument(s: &[u8]) -> usize
+    requires { ⌜ CallAt (now s) ⌝ }
+    ensures { λ r. ⌜ ((x : CallAt (now (s .entry))) → Passes (now (s .entry)) r (putTerms (x .argument) (x .rest))) ⌝ }
+{
+    10 + s[9] as usize
+}
+
+// The entry of the site at p, in that sentence.
+fn entry(p: usize, sentence: usize) -> u32
+    requires { ⌜ (p < 32768) × (sentence < 4096) ⌝ }
+    ensures { λ r. ⌜ (entryOffset r ≡ p) × (entrySentence r ≡ sentence) ⌝ }
+{
+    p as u32 + 32768 * (sentence as u32)
+}
+
+// The place past a walk's records, and how many sites are listed by then.
+pub struct Walk {
+    pub at: usize,
+    pub count: usize,
+}
+
+// Lists the sites of the records that stand from `at` up to their close, after n others: an outer call before those in
+// its argument, a sentence's result before its conditions. Patterns have none.
+fn collect(b: &[u8], at: usize, sentence: usize, sites: &mut [u32], n: usize) -> Walk
+    requires { ⌜ (length (now b) ≤ 32768) × (sentence < 4096) × RoomFor (now b) at n (length (now sites)) ⌝ }
+    ensures { λ w. ⌜ ((r : RecordsAt (drop at (now (b .entry)))) → Collected (now (b .entry)) at sentence (now (sites .entry)) n (now (sites .exit)) w r) ⌝ }
+{
+    let mut p = at;
+    let mut k = n;
+    loop {
+        let m = b[p];
+        match m {
+            7 => {
+                let w = collect(b, p + 9, sentence, sites, k);
+                p = w.at;
+                k = w.count;
+            }
+            8 => {
+                let i = p + call_argument(&b[p..]);
+                sites[k] = entry(p, sentence);
+                let w = collect(b, i, sentence, sites, k + 1);
+                p = w.at;
+                k = w.count;
+            }
+            9 => {
+                let a = collect(b, p + 9, sentence, sites, k);
+                let w = collect(b, a.at, sentence, sites, a.count);
+                p = w.at;
+                k = w.count;
+            }
+            10 => {
+                let x = &b[p..];
+                let i = p + result_start(x);
+                let j = p + conditions_start(x);
+                let a = collect(b, i, sentence, sites, k);
+                let w = collect(b, j, sentence, sites, a.count);
+                p = a.at;
+                k = w.count;
+            }
+            11 => {
+                let w = collect(b, p + 9, sentence, sites, k);
+                let i = w.at;
+                p = i + terms_len(&b[i..]);
+                k = w.count;
+            }
+            12 => {
+                return Walk {
+                    at: p + 1,
+                    count: k,
+                };
+            }
+            15 => {
+                return Walk {
+                    at: p + 1,
+                    count: k,
+                };
+            }
+            _ => {
+                p += term_len(&b[p..]);
+            }
+        }
+    }
+}
+
+// Lists the sites of the terms at `at`, after n others; how many are listed then.
+pub fn collect_call_sites(
+    b: &[u8],
+    at: usize,
+    sentence: usize,
+    sites: &mut [u32],
+    n: usize,
+) -> usize
+    requires { ⌜ (length (now b) ≤ 32768) × (sentence < 4096) × RoomForTerms (now b) at n (length (now sites)) ⌝ }
+    ensures { λ r. ⌜ ((t : TermsAt Mode.result (drop at (now (b .entry)))) → Appended (now (b .entry)) (now (sites .entry)) n r (now (sites .exit)) (heldBy sentence (collectCallSites (t .terms)))) ⌝ }
+{
+    let w = collect(b, at, sentence, sites, n);
+    w.count
+}
+
+// The same of the sentence at `at`: its result before its conditions.
+pub fn sentence_sites(b: &[u8], at: usize, sentence: usize, sites: &mut [u32], n: usize) -> Walk
+    requires { ⌜ (length (now b) ≤ 32768) × (sentence < 4096) × RoomForSentence (now b) at n (length (now sites)) ⌝ }
+    ensures { λ w. ⌜ ((x : SentenceAt (drop at (now (b .entry)))) → SentenceCollected (now (b .entry)) at sentence (now (sites .entry)) n (now (sites .exit)) w x) ⌝ }
+{
+    let x = &b[at..];
+    let i = at + result_start(x);
+    let j = at + conditions_start(x);
+    let a = collect(b, i, sentence, sites, n);
+    let w = collect(b, j, sentence, sites, a.count);
+    Walk {
+        at: a.at,
+        count: w.count,
+    }
+}
+
+// The same of all functions, which stand from `from` to the end of the body b; their sentences are numbered as they come.
+pub fn program_sites(b: &[u8], from: usize, sites: &mut [u32], n: usize) -> usize
+    requires { ⌜ (length (now b) ≤ 32768) × (from ≤ length (now b)) × RoomForFunctions (now b) from n (length (now sites)) ⌝ }
+    ensures { λ r. ⌜ ((h : FunctionsAt (drop from (now (b .entry)))) → Appended (now (b .entry)) (now (sites .entry)) n r (now (sites .exit)) (heldSites 0 (ownSentences (h .functions)))) ⌝ }
+{
+    let mut p = from;
+    let mut sentence: usize = 0;
+    let mut k = n;
+    while p < b.len() {
+        let m = b[p];
+        if m == 18 {
+            p += sentences_start(&b[p..]);
+        } else if m == 10 {
+            let w = sentence_sites(b, p, sentence, sites, k);
+            p = w.at;
+            k = w.count;
+            sentence += 1;
+        } else {
+            p += 1;
+        }
+    }
+    k
+}

@@ -52,7 +52,7 @@ numbered-sites k fs = all-held k (ownSentences fs) ∙ all-functions fs
 pub numbered-length : (k : ℕ) (fs : List Function) → length (heldSites k (ownSentences fs)) ≡ length (functionSites fs)
 numbered-length k fs = sym (length-map (heldSites k (ownSentences fs)) siteOf) ∙ ap length (numbered-sites k fs)
 
-sentences-counted : (b : Sentences) → length (sentenceList b) ≡ sentenceCount b
+pub sentences-counted : (b : Sentences) → length (sentenceList b) ≡ sentenceCount b
 unfolding sentenceList sentenceCount
 sentences-counted empty = refl
 sentences-counted (sentence h p c r b) = omega (arith, sentences-counted b)

@@ -13,4 +13,6 @@ pub mod Readings
 pub mod Bytes
 pub mod Numbered
 pub mod Walking
+pub mod Verdicts
+pub mod Modes
 pub mod Examples

@@ -12,8 +12,8 @@ use Rattle.restrictions.specs.Sites.{Site, collectCallSites, conditionSites, se
 use Rattle.restrictions.specs.Entries.{Held, heldBy}
 use Rattle.restrictions.specs.Numbered.{ownSites, heldSites}
 use Rattle.restrictions.proofs.Numbered.{sentences-counted}
-use Rattle.output.specs.Output.{keptSentences, keptFunction, keptFunctions, keptProgram}
-use Rattle.output.specs.Sites.{keptSites}
+use Rattle.cleaning.specs.Kept.{keptSentences, keptFunction, keptFunctions, keptProgram}
+use Rattle.cleaning.specs.KeptSites.{keptSites}
 
 kept-append : (keep : ℕ → Bool) (xs ys : List Held) → keptSites keep (xs ++ ys) ≡ keptSites keep xs ++ keptSites keep ys
 unfolding keptSites

@@ -5,3 +5,7 @@ pub mod Bound
 pub mod Twice
 pub mod Computing
 pub mod Examples
+pub mod Kept
+pub mod KeptSites
+pub mod Asked
+pub mod History

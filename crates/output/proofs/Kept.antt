@@ -15,7 +15,8 @@ use Rattle.image.specs.Decode.{Answer, decode}
 use Rattle.image.proofs.Numbers.{Bytes}
 use Rattle.image.proofs.Lengths.{span-length, name-length, encode-length}
 use Rattle.image.proofs.RoundTrip.{decode-encode, encode-decode}
-use Rattle.output.specs.Output.{keptSentences, keptFunction, keptFunctions, keptProgram}
+use Rattle.cleaning.specs.Kept.{keptSentences, keptFunction, keptFunctions, keptProgram}
+use Rattle.cleaning.proofs.Kept.{all-kept}
 use Rattle.output.proofs.Splits.{sentence-splits, declarations-splits}
 
 -- how many functions there are does not change
@@ -89,25 +90,6 @@ kept-valid keep w v = ((v .0 .0, valid-functions (w .functions) keep 0 (v .0 .1)
 -- What Clean writes is again an accepted image, and its program is the one with the sentences left out.
 pub kept-accepted : (keep : ℕ → Bool) (w : Program) → Valid w → decode (encode (keptProgram keep w)) ≡ Answer.accepted (keptProgram keep w)
 kept-accepted keep w v = decode-encode (keptProgram keep w) (kept-valid keep w v)
-
--- Where every sentence is kept, the program is the same.
-all-sentences : (b : Sentences) (keep : ℕ → Bool) (i : ℕ) → ((j : ℕ) → j < i + sentenceCount b → keep j ≡ true) → keptSentences keep i b ≡ b
-unfolding keptSentences sentenceCount
-all-sentences Sentences.empty keep i h = refl
-all-sentences (Sentences.sentence a p c r b) keep i h =
-    ap (λ (t : Bool). cond t (Sentences.sentence a p c r (keptSentences keep (suc i) b)) (keptSentences keep (suc i) b)) (h i (omega arith))
-    ∙ ap (Sentences.sentence a p c r) (all-sentences b keep (suc i) (λ j l. h j (omega (arith, l))))
-
-all-functions : (fs : List Function) (keep : ℕ → Bool) (i : ℕ) → ((j : ℕ) → j < i + ownSentenceCount fs → keep j ≡ true) → keptFunctions keep i fs ≡ fs
-unfolding keptFunctions keptFunction ownSentenceCount
-all-functions [] keep i h = refl
-all-functions (f ∷ fs) keep i h =
-    ap (λ (b : Sentences). record { span = f .span; visibility = f .visibility; name = f .name; sentences = b } ∷ keptFunctions keep (i + sentenceCount (f .sentences)) fs) (all-sentences (f .sentences) keep i (λ j l. h j (omega (arith, l))))
-    ∙ ap (λ (l : List Function). f ∷ l) (all-functions fs keep (i + sentenceCount (f .sentences)) (λ j l. h j (omega (arith, l))))
-
-pub all-kept : (keep : ℕ → Bool) (w : Program) → ((j : ℕ) → j < ownSentenceCount (w .functions) → keep j ≡ true) → keptProgram keep w ≡ w
-unfolding keptProgram
-all-kept keep w h = ap (λ (fs : List Function). record { declarations = w .declarations; functions = fs }) (all-functions (w .functions) keep 0 (λ j l. h j (omega (arith, l))))
 
 -- Of an accepted image: what is written is accepted again, and it is the image itself where every sentence is kept.
 module _ (s : List ℕ) (bytes : Bytes s) (a : Accepted s) (keep : ℕ → Bool) where

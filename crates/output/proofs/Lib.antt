@@ -6,4 +6,3 @@ pub mod Walking
 pub mod Items
 pub mod Kept
 pub mod Whole
-pub mod Sites

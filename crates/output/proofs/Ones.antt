@@ -11,7 +11,7 @@ use borrow.Author.Tests.{eqb-true, eqb-false}
 use lib.Count.{ones, ones-step}
 use Rattle.image.specs.Syntax.{Sentences, Function}
 use Rattle.image.specs.Encode.{sentenceCount, ownSentenceCount}
-use Rattle.output.specs.Output.{isKept, keptSentences, keptFunction, keptFunctions}
+use Rattle.cleaning.specs.Kept.{isKept, keptSentences, keptFunction, keptFunctions}
 use Rattle.output.specs.Marks.{NoneFrom, keptCount}
 use Rattle.output.proofs.Marks.{kept-out}
 

@@ -11,7 +11,7 @@ use Rattle.image.specs.Bytes.{put32, putSpan, putName}
 use Rattle.image.specs.Encode.{putHead, putSentences, visibilityByte, putFunction, putFunctions, sentenceCount, ownSentenceCount}
 use Rattle.image.specs.Limits.{ValidSentences, ValidFunctions}
 use Rattle.image.specs.Parts.{Passes, Sentence, putSentence, FunctionsAt}
-use Rattle.output.specs.Output.{keptSentences, keptFunction, keptFunctions}
+use Rattle.cleaning.specs.Kept.{keptSentences, keptFunction, keptFunctions}
 use Rattle.output.specs.Written.{FunctionsWritten}
 use Rattle.output.specs.Items.{Item, after, isSentence, isWritten, sentenceOne, keptOne}
 use Rattle.output.proofs.Splits.{sentence-splits}

@@ -15,7 +15,7 @@ use Rattle.image.specs.Parts.{Accepted, FunctionsAt}
 use Rattle.image.proofs.Numbers.{Bytes}
 use Rattle.image.proofs.Lengths.{functions-length, encode-length}
 use Rattle.image.proofs.RoundTrip.{encode-decode, body-is}
-use Rattle.output.specs.Output.{keptFunctions, keptProgram}
+use Rattle.cleaning.specs.Kept.{keptFunctions, keptProgram}
 use Rattle.output.specs.Written.{FunctionsWritten}
 use Rattle.output.proofs.Splits.{declarations-splits}
 use Rattle.output.proofs.Kept.{kept-functions, functions-shorter}

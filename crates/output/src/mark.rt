@@ -7,7 +7,7 @@ ghost use lib.ListN.{length};
 ghost use lib.Dec.{ltb};
 ghost use Rattle.image.specs.Syntax.{Function};
 ghost use Rattle.image.specs.Encode.{ownSentenceCount};
-ghost use Rattle.output.specs.Output.{isKept, keptFunctions};
+ghost use Rattle.cleaning.specs.Kept.{isKept, keptFunctions};
 ghost use Rattle.output.specs.Marks.{WithoutBit, BitsBelow, NoneFrom};
 
 // Whether the sentence i is kept; past the words of marks none is.

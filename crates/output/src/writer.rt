@@ -15,7 +15,7 @@ ghost use lib.ListN.{length, take, drop};
 ghost use Rattle.image.specs.Bytes.{put16, put32};
 ghost use Rattle.image.specs.Encode.{putFunctions, ownSentenceCount, encode};
 ghost use Rattle.image.specs.Parts.{Passes, FunctionsAt, Accepted};
-ghost use Rattle.output.specs.Output.{isKept, keptFunctions, keptProgram};
+ghost use Rattle.cleaning.specs.Kept.{isKept, keptFunctions, keptProgram};
 ghost use Rattle.output.specs.Items.{Item, after, isWritten, sentenceOne, keptOne};
 ghost use Rattle.output.specs.Written.{FunctionsWritten};
 

@@ -9,7 +9,7 @@ use Prim.Native.Nat.{ℕ, _+_, _-_, _≤_, _<_}
 use lib.ListN.{length, take, drop, length-drop}
 use Rattle.image.specs.Parts.{FunctionsAt, Passes}
 use Rattle.symbols.proofs.Parts.{part-rest}
-use Rattle.output.specs.Output.{isKept}
+use Rattle.cleaning.specs.Kept.{isKept}
 use Rattle.output.specs.Items.{Item, after}
 use Rattle.output.proofs.Walking.{Writes, Does, writes-start, writes-turn, writes-end, item-here, item-some, item-within, written-le, ones-le}
 use Rattle.output.proofs.writer.write_functions.Statement.{statement}

@@ -8,7 +8,7 @@ use Prim.Native.Nat.{ℕ, _-_}
 use lib.ListN.{length, take}
 use Rattle.image.proofs.Numbers.{Bytes}
 use Rattle.image.proofs.Loop.{bytes-of}
-use Rattle.output.specs.Output.{isKept}
+use Rattle.cleaning.specs.Kept.{isKept}
 use Rattle.output.proofs.Whole.{whole-size, body-size, functions-here, ends-within, functions-few, sentences-few, whole-written}
 use borrow.Author.Needs.{needs}
 use Rattle.output.proofs.writer.write_kept.Statement.{statement}

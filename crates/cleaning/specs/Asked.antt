@@ -1,0 +1,39 @@
+-- What a round asks of the program's call sites, which are collected once: a site is there as long as its sentence is kept.
+use Prim.Native.Nat.{ℕ}
+use mathlib.Core.Bool.{Bool, _&&_, not}
+use mathlib.Core.List.{List}
+use Rattle.image.specs.Syntax.{Name, Terms}
+use Rattle.symbols.specs.Names.{sameName}
+use Rattle.overlap.specs.Search.{patternsOverlap}
+use Rattle.restrictions.specs.Lists.{any}
+use Rattle.restrictions.specs.Sites.{restrictionIsCharacterisable}
+use Rattle.restrictions.specs.Entries.{Held}
+use Rattle.cleaning.specs.Cleaning.{isDisjoint}
+
+-- "Names meet without regard to ASCII case": the site calls a function named f.
+unfoldable pub isCallOf : Name → Held → Bool
+isCallOf f x = sameName (x .site .callee) f
+
+unfoldable pub isPlain : Held → Bool
+isPlain x = restrictionIsCharacterisable (x .site .argument)
+
+-- Of the sites that are there: one that makes f uncharacterised, one that restricts it, one that the pattern p is not Disjoint from.
+unfoldable pub opens : (ℕ → Bool) → Name → Held → Bool
+opens keep f x = keep (x .sentence) && (isCallOf f x && not (isPlain x))
+
+unfoldable pub restricts : (ℕ → Bool) → Name → Held → Bool
+restricts keep f x = keep (x .sentence) && (isCallOf f x && isPlain x)
+
+unfoldable pub isMet : Terms → Held → Bool
+isMet p x = not (isDisjoint (patternsOverlap p (x .site .argument)))
+
+unfoldable pub meets : (ℕ → Bool) → Name → Terms → Held → Bool
+meets keep f p x = restricts keep f x && isMet p x
+
+-- "It passes over [..] uncharacterised functions and functions without a restriction".
+unfoldable pub isJudged : (ℕ → Bool) → Name → List Held → Bool
+isJudged keep f sites = not (any (opens keep f) sites) && any (restricts keep f) sites
+
+-- "Disjoint from every restriction of its function": repeats have the same verdict, so all sites may be asked.
+unfoldable pub isRejected : (ℕ → Bool) → Name → List Held → Terms → Bool
+isRejected keep f sites p = isJudged keep f sites && not (any (meets keep f p) sites)

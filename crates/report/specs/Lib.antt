@@ -4,3 +4,4 @@ pub mod Report
 pub mod FormatTerm
 pub mod Parts
 pub mod Written
+pub mod Letters

@@ -33,28 +33,28 @@ pub fn put_bytes(out: &mut [u8], at: usize, text: &[u8]) -> usize
 }
 
 // A byte after the first of a code in UTF-8: six bits.
-fn trail(bits: u32) -> u8
+pub fn trail(bits: u32) -> u8
     ensures { λ r. ⌜ r ≡ 128 + bits % 64 ⌝ }
 {
     (128 | (bits & 63)) as u8
 }
 
 // The first byte of a code of two bytes, of three, of four.
-fn lead_of_two(code: u32) -> u8
+pub fn lead_of_two(code: u32) -> u8
     requires { ⌜ code < 2048 ⌝ }
     ensures { λ r. ⌜ r ≡ 192 + code / 64 ⌝ }
 {
     (192 | (code >> 6)) as u8
 }
 
-fn lead_of_three(code: u32) -> u8
+pub fn lead_of_three(code: u32) -> u8
     requires { ⌜ code < 65536 ⌝ }
     ensures { λ r. ⌜ r ≡ 224 + code / 4096 ⌝ }
 {
     (224 | (code >> 12)) as u8
 }
 
-fn lead_of_four(code: u32) -> u8
+pub fn lead_of_four(code: u32) -> u8
     requires { ⌜ code ≤ 1114111 ⌝ }
     ensures { λ r. ⌜ r ≡ 240 + code / 262144 ⌝ }
 {

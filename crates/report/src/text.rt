@@ -18,7 +18,7 @@ ghost use Rattle.report.specs.Fill.{Emitted, limit};
 ghost use Rattle.report.specs.Parts.{VariableAt};
 ghost use Rattle.report.specs.FormatTerm.{formatTerm, gapBefore, kindLetter};
 
-fn quote_of(code: u32) -> u8
+pub fn quote_of(code: u32) -> u8
     ensures { λ r. ⌜ r ∷ [] ≡ quote code ⌝ }
 {
     if code == 39 { 34 } else { 39 }
@@ -46,7 +46,7 @@ fn format_symbol(out: &mut [u8], at: usize, s: &[u8]) -> usize
     write(out, at, name_part(&s[9..]))
 }
 
-fn kind_letter(mark: u8) -> u8
+pub fn kind_letter(mark: u8) -> u8
     ensures { λ r. ⌜ r ≡ kindLetter mark ⌝ }
 {
     if mark == 4 {

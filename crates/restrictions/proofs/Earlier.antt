@@ -64,7 +64,7 @@ module _ {A : Type 0} (same : A → A → Bool) (trans : (x y z : A) → same x 
       (λ e. firstsAfter-new l seen (x ∷ earlier) (λ y m. r y (List·Memᴰ·tail m)) (seen-repeat seen earlier x e h))
       (λ e. firstsAfter-new l (x ∷ seen) (x ∷ earlier) (λ y m. r y (List·Memᴰ·tail m)) (seen-new seen earlier x (r x (List·Memᴰ·head refl)) h))
 
-  firsts-new : (l : List A) → ((x : A) → List·Memᴰ x l → same x x ≡ true) → firsts same l ≡ newAfter same [] l
+  pub firsts-new : (l : List A) → ((x : A) → List·Memᴰ x l → same x x ≡ true) → firsts same l ≡ newAfter same [] l
   unfolding firsts
   firsts-new l r = firstsAfter-new l [] [] r (λ y m. absurd (List·Memᴰ·not-nil m), λ z m. m)
 

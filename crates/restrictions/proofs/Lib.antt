@@ -12,6 +12,7 @@ pub mod Going
 pub mod Readings
 pub mod Bytes
 pub mod Numbered
+pub mod Places
 pub mod Walking
 pub mod Verdicts
 pub mod Modes

@@ -1,100 +1,33 @@
 -- The walk over all functions, sentence by sentence: the sites listed and those of the sentences to come make up the whole.
-use Prim.Native.Nat.{ℕ, suc, _+_, _-_, _<_, _≤_}
+use Prim.Native.Nat.{ℕ, suc, _+_, _<_, _≤_}
 use native.Mathlib.Omega.{arith}
 use mathlib.Core.Path.{_≡_, refl, sym, ap, subst, _∙_}
-use mathlib.Core.List.{List, [], _∷_, _++_, append-assoc, append-nil}
-use lib.ListN.{length, getD, drop, length-append, length-drop, drop-of-length-le}
-use lib.Seq.{drop-drop, getD-drop}
-use Rattle.image.specs.Syntax.{Sentences, Function}
-use Rattle.image.specs.Bytes.{putName}
-use Rattle.image.specs.Encode.{putHead, putTerms, putConditions, putSentences, visibilityByte, putFunction, putFunctions}
-use Rattle.image.specs.Limits.{ValidSentences, ValidFunctions}
-use Rattle.image.specs.Parts.{Passes, Sentence, putSentence, SentenceAt, sentenceList, ownSentences, FunctionAt, FunctionsAt}
-use Rattle.image.proofs.Lengths.{span-length, name-length, head-length, terms-length, conditions-length}
-use Rattle.symbols.proofs.Parts.{part-rest}
-use Rattle.overlap.proofs.Readings.{part, part-length}
+use mathlib.Core.List.{List, [], _++_, append-assoc, append-nil}
+use lib.ListN.{length, getD, drop, length-append, length-drop}
+use Rattle.image.specs.Syntax.{Function}
+use Rattle.image.specs.Encode.{putSentences, putFunctions}
+use Rattle.image.specs.Parts.{Passes, Sentence, ownSentences, FunctionAt, FunctionsAt}
+use Rattle.overlap.proofs.Readings.{part}
 use Rattle.restrictions.specs.declared.Walk.{Walk}
 use Rattle.restrictions.specs.Sites.{functionSites}
 use Rattle.restrictions.specs.Entries.{Held, heldBy, Appended}
 use Rattle.restrictions.specs.Numbered.{ownSites, heldSites, SentenceCollected}
 use Rattle.restrictions.proofs.Appended.{held-length, appended-nothing, appended-length, appended-then}
-use Rattle.restrictions.proofs.Going.{from-part}
 use Rattle.restrictions.proofs.Bytes.{functions-bytes}
 use Rattle.restrictions.proofs.Numbered.{numbered-length, own-counted}
-
--- What stands at a place of the walk: functions, or a function's sentences and then functions.
-pub data Place (s : List ℕ) (xs : List Sentence) : Type 0 where
-  outer : (fs : List Function) → s ≡ putFunctions fs → ValidFunctions fs → xs ≡ ownSentences fs → Place s xs
-  inner : (bs : Sentences) (fs : List Function) → s ≡ putSentences bs (putFunctions fs) → ValidSentences bs 0 → ValidFunctions fs → xs ≡ sentenceList bs ++ ownSentences fs → Place s xs
+use Rattle.restrictions.proofs.Places.{Place, FunctionIn, SentenceIn, place-none, place-close, place-function, place-part, place-fits, place-inside, place-sentence, place-later, place-next}
 
 pub record Walking (b : List ℕ) (from : ℕ) (old : List ℕ) (n : ℕ) (new : List ℕ) (p s c : ℕ) (h : FunctionsAt (drop from b)) : Type 0 where
   pub rest : List Sentence
-  pub place : Place (drop p b) rest
+  pub more : List Function
+  pub place : Place (drop p b) rest more
   pub done : List Held
   pub appended : Appended b old n c new done
   pub whole : heldSites 0 (ownSentences (h .functions)) ≡ done ++ heldSites s rest
   pub count : s + length rest ≡ length (ownSentences (h .functions))
 
 pub walking-first : {b : List ℕ} {from : ℕ} (old : List ℕ) (n : ℕ) (h : FunctionsAt (drop from b)) → n ≤ length old → Walking b from old n old from 0 n h
-walking-first {b} old n h l = record { rest = ownSentences (h .functions); place = outer (h .functions) (h .is) (h .valid) refl; done = []; appended = appended-nothing b old n l; whole = refl; count = omega arith }
-
--- A function, a sentence, a function's close.
-pub record FunctionIn (s : List ℕ) (xs : List Sentence) : Type 0 where
-  pub function : Function
-  pub functions : List Function
-  pub is : s ≡ putFunction function (putFunctions functions)
-  pub valid : ValidSentences (function .sentences) 0
-  pub valid-more : ValidFunctions functions
-  pub sentences : xs ≡ sentenceList (function .sentences) ++ ownSentences functions
-
-pub record SentenceIn (s : List ℕ) (xs : List Sentence) : Type 0 where
-  pub here : SentenceAt s
-  pub more : List Sentence
-  pub next : Place (here .rest) more
-  pub sentences : xs ≡ here .sentence ∷ more
-
-head-long : (f : Function) (k : List ℕ) → length (putSentences (f .sentences) k) < length (putFunction f k)
-unfolding putFunction
-head-long f k = omega (arith, span-length (f .span) (visibilityByte (f .visibility) ∷ putName (f .name) (putSentences (f .sentences) k)), name-length (f .name) (putSentences (f .sentences) k))
-
-sentence-long : (x : Sentence) (k : List ℕ) → length k < length (putSentence x k)
-unfolding putSentence
-sentence-long x k =
-    omega (arith, head-length (x .head) (putTerms (x .pattern) (putConditions (x .conditions) (12 ∷ putTerms (x .result) k))), terms-length (x .pattern) (putConditions (x .conditions) (12 ∷ putTerms (x .result) k)), conditions-length (x .conditions) (12 ∷ putTerms (x .result) k), terms-length (x .result) k)
-
-module _ {s : List ℕ} {xs : List Sentence} where
-  function-in : 0 < length s → getD s 0 0 ≡ 18 → Place s xs → FunctionIn s xs
-  unfolding putFunction putFunctions putSentences putHead ownSentences
-  function-in l m (outer [] q v r) = absurd (omega (arith, l, ap length q))
-  function-in l m (outer (f ∷ fs) q v r) = record { function = f; functions = fs; is = q; valid = v .2; valid-more = v .3; sentences = r }
-  function-in l m (inner Sentences.empty fs q v u r) = absurd (omega (arith, m, ap (λ (l : List ℕ). getD l 0 0) q))
-  function-in l m (inner (Sentences.sentence a t c e b) fs q v u r) = absurd (omega (arith, m, ap (λ (l : List ℕ). getD l 0 0) q))
-
-  sentence-in : 0 < length s → getD s 0 0 ≡ 10 → Place s xs → SentenceIn s xs
-  unfolding putFunction putFunctions putSentences putHead putSentence sentenceList
-  sentence-in l m (outer [] q v r) = absurd (omega (arith, l, ap length q))
-  sentence-in l m (outer (f ∷ fs) q v r) = absurd (omega (arith, m, ap (λ (l : List ℕ). getD l 0 0) q))
-  sentence-in l m (inner Sentences.empty fs q v u r) = absurd (omega (arith, m, ap (λ (l : List ℕ). getD l 0 0) q))
-  sentence-in l m (inner (Sentences.sentence a t c e b) fs q v u r) = record {
-    here = record { sentence = record { head = a; pattern = t; conditions = c; result = e }; rest = putSentences b (putFunctions fs); is = q; valid-pattern = v .1; valid-conditions = v .2; valid-result = v .3 };
-    more = sentenceList b ++ ownSentences fs;
-    next = inner b fs refl (v .4) u refl;
-    sentences = r;
-  }
-
-  close-in : 0 < length s → (getD s 0 0 ≡ 18 → ⊥) → (getD s 0 0 ≡ 10 → ⊥) → Place s xs → Place (drop 1 s) xs
-  unfolding putFunction putFunctions putSentences putHead sentenceList
-  close-in l m k (outer [] q v r) = absurd (omega (arith, l, ap length q))
-  close-in l m k (outer (f ∷ fs) q v r) = absurd (m (ap (λ (l : List ℕ). getD l 0 0) q))
-  close-in l m k (inner Sentences.empty fs q v u r) = outer fs (ap (drop 1) q) u r
-  close-in l m k (inner (Sentences.sentence a t c e b) fs q v u r) = absurd (k (ap (λ (l : List ℕ). getD l 0 0) q))
-
-  none-in : s ≡ [] → Place s xs → xs ≡ []
-  unfolding putFunction putFunctions putSentences putHead ownSentences
-  none-in e (outer [] q v r) = r
-  none-in e (outer (f ∷ fs) q v r) = absurd (omega (arith, ap length (sym q ∙ e)))
-  none-in e (inner Sentences.empty fs q v u r) = absurd (omega (arith, ap length (sym q ∙ e)))
-  none-in e (inner (Sentences.sentence a t c i b) fs q v u r) = absurd (omega (arith, ap length (sym q ∙ e)))
+walking-first {b} old n h l = record { rest = ownSentences (h .functions); more = h .functions; place = Place.outer (h .is) (h .valid) refl; done = []; appended = appended-nothing b old n l; whole = refl; count = omega arith }
 
 module _ {b : List ℕ} {from : ℕ} {old : List ℕ} {n : ℕ} {new : List ℕ} {p s c : ℕ} {h : FunctionsAt (drop from b)} (w : Walking b from old n new p s c h) where
   pub walking-length : length new ≡ length old
@@ -103,20 +36,15 @@ module _ {b : List ℕ} {from : ℕ} {old : List ℕ} {n : ℕ} {new : List ℕ}
   pub walking-end : length b ≤ p → Appended b old n c new (heldSites 0 (ownSentences (h .functions)))
   unfolding heldSites
   walking-end l =
-      let e : w .rest ≡ [] = none-in (drop-of-length-le b l) (w .place) in
+      let e : w .rest ≡ [] = place-none b p (w .place) l .0 in
       subst (Appended b old n c new) (sym (w .whole ∙ (ap (λ (r : List Sentence). w .done ++ heldSites s r) e ∙ append-nil (w .done)))) (w .appended)
 
   module _ (l : p < length b) where
-    long : 0 < length (drop p b)
-    long = omega (arith, length-drop p b)
-
-    mark-here : getD (drop p b) 0 0 ≡ getD b p 0
-    mark-here = let z : p + 0 ≡ p = omega arith in getD-drop p b 0 0 ∙ ap (λ (i : ℕ). getD b i 0) z
-
     pub walking-close : (getD b p 0 ≡ 18 → ⊥) → (getD b p 0 ≡ 10 → ⊥) → Walking b from old n new (p + 1) s c h
     walking-close m k = record {
       rest = w .rest;
-      place = subst (λ (z : List ℕ). Place z (w .rest)) (drop-drop 1 p b) (close-in long (λ e. m (sym mark-here ∙ e)) (λ e. k (sym mark-here ∙ e)) (w .place));
+      more = w .more;
+      place = place-close b p (w .place) l m k;
       done = w .done;
       appended = w .appended;
       whole = w .whole;
@@ -124,20 +52,21 @@ module _ {b : List ℕ} {from : ℕ} {old : List ℕ} {n : ℕ} {new : List ℕ}
     }
 
     module _ (m : getD b p 0 ≡ 18) where
-      pub function-there : FunctionIn (drop p b) (w .rest)
-      function-there = function-in long (mark-here ∙ m) (w .place)
+      abbrev pub function-there : FunctionIn (drop p b) (w .rest) (w .more)
+      function-there = place-function b p (w .place) l m
 
       abbrev pub function-part : FunctionAt (part b p)
-      function-part = record { function = function-there .function; rest = putFunctions (function-there .functions); is = part-rest b p ∙ function-there .is }
+      function-part = place-part b p (w .place) l m
 
-      module _ (i : ℕ) (q : Passes (part b p) i (putSentences (function-there .function .sentences) (putFunctions (function-there .functions)))) where
+      module _ (i : ℕ) (q : Passes (part b p) i (putSentences (place-function b p (w .place) l m .function .sentences) (putFunctions (place-function b p (w .place) l m .functions)))) where
         pub function-fits : (0 < i) × (p + i ≤ length b)
-        function-fits = (omega (arith, q .fits, length-drop i (part b p), ap length (q .left), ap length (function-part .is), head-long (function-there .function) (putFunctions (function-there .functions))), omega (arith, q .fits, part-length b p, l))
+        function-fits = place-fits b p (w .place) l m i q
 
         pub walking-function : Walking b from old n new (p + i) s c h
         walking-function = record {
           rest = w .rest;
-          place = inner (function-there .function .sentences) (function-there .functions) (from-part b p i q) (function-there .valid) (function-there .valid-more) (function-there .sentences);
+          more = place-function b p (w .place) l m .functions;
+          place = place-inside b p (w .place) l m i q;
           done = w .done;
           appended = w .appended;
           whole = w .whole;
@@ -145,8 +74,8 @@ module _ {b : List ℕ} {from : ℕ} {old : List ℕ} {n : ℕ} {new : List ℕ}
         }
 
     module _ (m : getD b p 0 ≡ 10) where
-      pub sentence-there : SentenceIn (drop p b) (w .rest)
-      sentence-there = sentence-in long (mark-here ∙ m) (w .place)
+      abbrev pub sentence-there : SentenceIn (drop p b) (w .rest) (w .more)
+      sentence-there = place-sentence b p (w .place) l m
 
       split : heldSites s (w .rest) ≡ heldBy s (ownSites (sentence-there .here .sentence)) ++ heldSites (suc s) (sentence-there .more)
       unfolding heldSites
@@ -164,8 +93,7 @@ module _ {b : List ℕ} {from : ℕ} {old : List ℕ} {n : ℕ} {new : List ℕ}
 
       module _ {new′ : List ℕ} {v : Walk} (z : SentenceCollected b p s new c new′ v (sentence-there .here)) where
         pub sentence-later : p < v .at
-        sentence-later =
-            omega (arith, ap length (sentence-there .here .is), sentence-long (sentence-there .here .sentence) (sentence-there .here .rest), length-drop p b, length-drop (v .at) b, ap length (z .left), z .fits)
+        sentence-later = place-later b p (w .place) l m (v .at) (z .left) (z .fits)
 
         pub walking-sentence : Walking b from old n new′ (v .at) (s + 1) (v .count) h
         walking-sentence =
@@ -173,7 +101,8 @@ module _ {b : List ℕ} {from : ℕ} {old : List ℕ} {n : ℕ} {new : List ℕ}
             let y : suc s ≡ s + 1 = omega arith in
             record {
               rest = sentence-there .more;
-              place = subst (λ (k : List ℕ). Place k (sentence-there .more)) (sym (z .left)) (sentence-there .next);
+              more = w .more;
+              place = place-next b p (w .place) l m (v .at) (z .left) (z .fits);
               done = w .done ++ x;
               appended = appended-then (w .appended) (z .appended);
               whole = w .whole ∙ (ap (λ (k : List Held). w .done ++ k) split ∙ (sym (append-assoc (w .done) x (heldSites (suc s) (sentence-there .more))) ∙ ap (λ (i : ℕ). (w .done ++ x) ++ heldSites i (sentence-there .more)) y));

@@ -6,7 +6,7 @@ ghost use Rattle.symbols.specs.Symbols.{sameSymbol};
 ghost use Rattle.symbols.specs.Parts.{SymbolAt};
 
 // An ASCII capital's small letter.
-fn small(c: u8) -> u8
+pub fn small(c: u8) -> u8
     ensures { λ r. ⌜ r ≡ lower c ⌝ }
 {
     if 65 <= c {

@@ -1,0 +1,17 @@
+pub mod First
+pub mod Functions
+pub mod Entries
+pub mod Listed
+pub mod Firsts
+pub mod Buckets
+pub mod Calls
+pub mod Heads
+pub mod Sites
+pub mod Linked
+pub mod Preserved
+pub mod Shared
+pub mod Any
+pub mod Carried
+pub mod Arguments
+pub mod Alike
+pub mod Classing

@@ -1,0 +1,31 @@
+-- Where the parts of work begin: columns, one after another, of functions (two), sentences (two), kept marks, sites (two); then room.
+use Prim.Native.Nat.{ℕ, _+_, _*_, _/_, _%_}
+use mathlib.Core.List.{List}
+use lib.ListN.{getD}
+use Rattle.index.specs.declared.Plan.{Plan}
+
+abbrev pub heads : Plan → ℕ
+heads p = p .functions
+
+abbrev pub lines : Plan → ℕ
+lines p = 2 * p .functions
+
+abbrev pub witnesses : Plan → ℕ
+witnesses p = lines p + p .sentences
+
+abbrev pub marks : Plan → ℕ
+marks p = lines p + 2 * p .sentences
+
+-- "The kept marks are one bit a sentence": words of 32.
+abbrev pub calls : Plan → ℕ
+calls p = marks p + (p .sentences + 31) / 32
+
+abbrev pub links : Plan → ℕ
+links p = calls p + p .sites
+
+abbrev pub room : Plan → ℕ
+room p = links p + p .sites
+
+-- While sites are linked, the room holds a link for each function and then the buckets.
+abbrev pub buckets : Plan → ℕ
+buckets p = room p + p .functions

@@ -1,0 +1,9 @@
+pub mod First
+pub mod Layout
+pub mod Tables
+pub mod Bucket
+pub mod Tabled
+pub mod Calls
+pub mod Links
+pub mod Lists
+pub mod Linking

@@ -17,4 +17,4 @@ pub record Emitted (s : List ℕ) (p : ℕ) (t : Text) (r : ℕ) (bytes : List �
 
 -- No text ends beyond this place: far more than any report has, and no sum of places wraps.
 abbrev pub limit : ℕ
-limit = 1099511627776
+limit = 1152921504606846976

@@ -16,10 +16,11 @@ use Rattle.restrictions.proofs.Lists.{any-some, in-any, firsts-in, firsts-some}
 use Rattle.restrictions.proofs.Verdicts.{same-verdict}
 use Rattle.cleaning.specs.Cleaning.{isDisjoint, Standing, restricted, standing, rejected}
 use Rattle.cleaning.specs.KeptSites.{keptSites}
-use Rattle.cleaning.specs.Asked.{isCallOf, isPlain, opens, restricts, isMet, meets, isJudged, isRejected}
+use Rattle.index.specs.Calls.{isCallOf, isPlain, isListed}
+use Rattle.cleaning.specs.Asked.{opens, restricts, isMet, meets, isJudged, isRejected}
 
 -- A test of all, of those selected, and of the first of each, as a test of some.
-all-any : {A : Type 0} (test : A → Bool) (l : List A) → all test l ≡ not (any (λ x. not (test x)) l)
+pub all-any : {A : Type 0} (test : A → Bool) (l : List A) → all test l ≡ not (any (λ x. not (test x)) l)
 unfolding all any
 all-any test [] = refl
 all-any test (x ∷ l) = by (test x) (all-any test l)
@@ -28,7 +29,7 @@ all-any test (x ∷ l) = by (test x) (all-any test l)
     by true e = e
     by false e = refl
 
-select-any : {A : Type 0} (pass test : A → Bool) (l : List A) → any test (select pass l) ≡ any (λ x. pass x && test x) l
+pub select-any : {A : Type 0} (pass test : A → Bool) (l : List A) → any test (select pass l) ≡ any (λ x. pass x && test x) l
 unfolding any select
 select-any pass test [] = refl
 select-any pass test (x ∷ l) = by (pass x) (select-any pass test l)
@@ -37,7 +38,7 @@ select-any pass test (x ∷ l) = by (pass x) (select-any pass test l)
     by true e = ap (λ (u : Bool). test x || u) e
     by false e = e
 
-firsts-any : {A : Type 0} (same : A → A → Bool) (test : A → Bool) (l : List A) → ((y x : A) → same y x ≡ true → test y ≡ test x) → any test (firsts same l) ≡ any test l
+pub firsts-any : {A : Type 0} (same : A → A → Bool) (test : A → Bool) (l : List A) → ((y x : A) → same y x ≡ true → test y ≡ test x) → any test (firsts same l) ≡ any test l
 firsts-any same test l shared =
     same-test (any test (firsts same l)) (any test l)
     (λ e. let s = any-some (λ x. test x ≡ true) test (firsts same l) e (λ x t. t) in in-any test l (s .0) (firsts-in same l (s .0) (s .1)) (s .2))
@@ -46,12 +47,12 @@ firsts-any same test l shared =
     let t = firsts-some same (λ x. test x ≡ true) (λ y x h k. shared y x h ∙ k) l (s .0) (s .1) (s .2) in
     in-any test (firsts same l) (t .0) (t .1) (t .2))
 
-map-any : {A B : Type 0} (g : A → B) (test : B → Bool) (l : List A) → any test (map g l) ≡ any (λ x. test (g x)) l
+pub map-any : {A B : Type 0} (g : A → B) (test : B → Bool) (l : List A) → any test (map g l) ≡ any (λ x. test (g x)) l
 unfolding any
 map-any g test [] = refl
 map-any g test (x ∷ l) = ap (λ (u : Bool). test (g x) || u) (map-any g test l)
 
-kept-any : (keep : ℕ → Bool) (test : Site → Bool) (sites : List Held) → any test (keptSites keep sites) ≡ any (λ x. keep (x .sentence) && test (x .site)) sites
+pub kept-any : (keep : ℕ → Bool) (test : Site → Bool) (sites : List Held) → any test (keptSites keep sites) ≡ any (λ x. keep (x .sentence) && test (x .site)) sites
 unfolding any keptSites
 kept-any keep test [] = refl
 kept-any keep test (x ∷ sites) = by (keep (x .sentence)) (kept-any keep test sites)
@@ -91,7 +92,7 @@ standing-uncharacterised false rs e = refl
 
 module _ (keep : ℕ → Bool) (f : Name) (sites : List Held) where
   -- An argument that enters f is that of a site that is there and calls f.
-  entering-any : (test : Terms → Bool) → any test (entering f (keptSites keep sites)) ≡ any (λ x. keep (x .sentence) && (isCallOf f x && test (x .site .argument))) sites
+  pub entering-any : (test : Terms → Bool) → any test (entering f (keptSites keep sites)) ≡ any (λ x. keep (x .sentence) && (isCallOf f x && test (x .site .argument))) sites
   unfolding entering isCallOf
   entering-any test =
       map-any (λ x. x .argument) test (select (λ x. sameName (x .callee) f) (keptSites keep sites))
@@ -99,13 +100,13 @@ module _ (keep : ℕ → Bool) (f : Name) (sites : List Held) where
       ∙ kept-any keep (λ x. sameName (x .callee) f && test (x .argument)) sites
 
   pub opened-is : enteringRestrictions f (keptSites keep sites) .characterised ≡ not (any (opens keep f) sites)
-  unfolding enteringRestrictions opens isPlain
+  unfolding enteringRestrictions opens isListed isPlain
   opened-is = all-any restrictionIsCharacterisable (entering f (keptSites keep sites)) ∙ ap not (entering-any (λ a. not (restrictionIsCharacterisable a)))
 
   -- A test that repeats pass alike.
-  restrictions-any : (test : Terms → Bool) → ((a b : Terms) → sameConfiguration a b ≡ true → test a ≡ test b)
+  pub restrictions-any : (test : Terms → Bool) → ((a b : Terms) → sameConfiguration a b ≡ true → test a ≡ test b)
       → any test (enteringRestrictions f (keptSites keep sites) .restrictions) ≡ any (λ x. restricts keep f x && test (x .site .argument)) sites
-  unfolding enteringRestrictions restricts isPlain
+  unfolding enteringRestrictions restricts isListed isPlain
   restrictions-any test shared =
       firsts-any sameConfiguration test (select restrictionIsCharacterisable (entering f (keptSites keep sites))) shared
       ∙ select-any restrictionIsCharacterisable test (entering f (keptSites keep sites))
@@ -122,7 +123,7 @@ module _ (keep : ℕ → Bool) (f : Name) (sites : List Held) where
   restricted-is = restrictions-any (λ a. true) (λ a b e. refl) ∙ ap (λ (g : Held → Bool). any g sites) (fun-ext (λ x. and-true (restricts keep f x)))
 
   -- "Disjoint from every restriction of its function": of repeats one verdict stands for all.
-  disjoint-is : (p : Terms) → all (λ r. isDisjoint (patternsOverlap p r)) (enteringRestrictions f (keptSites keep sites) .restrictions) ≡ not (any (meets keep f p) sites)
+  pub disjoint-is : (p : Terms) → all (λ r. isDisjoint (patternsOverlap p r)) (enteringRestrictions f (keptSites keep sites) .restrictions) ≡ not (any (meets keep f p) sites)
   unfolding meets isMet
   disjoint-is p =
       all-any (λ r. isDisjoint (patternsOverlap p r)) (enteringRestrictions f (keptSites keep sites) .restrictions)

@@ -174,7 +174,7 @@ module _ (w : Program) (keep next : ℕ → Bool) (sites : List Held) where
   abbrev judged : ℕ → Function → Standing
   judged k f = standing (isRoot w k f) (enteringRestrictions (f .name) (keptSites keep sites))
 
-  judged-rejects : (k : ℕ) (f : Function) (p : Terms) → rejected (judged k f) p ≡ rejects (rootPlace w) keep sites k (f .name) p
+  pub judged-rejects : (k : ℕ) (f : Function) (p : Terms) → rejected (judged k f) p ≡ rejects (rootPlace w) keep sites k (f .name) p
   unfolding rejects isRoot
   judged-rejects k f p = rejected-is (isRoot w k f) keep (f .name) sites p
 
@@ -214,7 +214,7 @@ module _ (w : Program) (keep next : ℕ → Bool) (sites : List Held) where
 
 -- ---- all rounds
 
-there-first : (fell : ℕ → ℕ) (s : ℕ) → isThere fell 1 s ≡ true
+pub there-first : (fell : ℕ → ℕ) (s : ℕ) → isThere fell 1 s ≡ true
 unfolding isThere
 there-first fell s = by (fell s)
   where
@@ -268,7 +268,7 @@ module _ (w : Program) (fell : ℕ → ℕ) where
       ∙ (after-rounds n (suc r) (λ q a b. h q (omega (arith, a)) (omega (arith, b))) ∙ ap (startOf w fell) z)
 
 module _ (w : Program) (fell : ℕ → ℕ) (n : ℕ) (t : Told w fell n) (static : residualDispatchesDynamically w ≡ false) where
-  begins : startOf w fell 1 ≡ w
+  pub begins : startOf w fell 1 ≡ w
   unfolding startOf
   begins = all-kept (isThere fell 1) w (λ j l. there-first fell j)
 

@@ -1,4 +1,5 @@
-pub mod Root
+pub mod RootStays
+pub mod EntryPlace
 pub mod Rejected
 pub mod Counts
 pub mod Bound
@@ -9,3 +10,15 @@ pub mod Kept
 pub mod KeptSites
 pub mod Asked
 pub mod History
+pub mod Owned
+pub mod RoundDone
+pub mod RoundSteps
+pub mod ReportLists
+pub mod ToldRemoved
+pub mod ToldFinal
+pub mod ToldNames
+pub mod ToldReport
+pub mod Indexed
+pub mod Meeting
+pub mod Walking
+pub mod Witnesses

@@ -11,7 +11,7 @@ use Rattle.image.specs.Encode.{ownSentenceCount}
 use Rattle.restrictions.specs.Dispatch.{residualDispatchesDynamically}
 use Rattle.cleaning.specs.Root.{rootPlace}
 use Rattle.cleaning.specs.Cleaning.{LeftAlone, Round, round, leftBy, dropsNothing, roundsUpTo, roundsOf, isRoot, rounds, after, cleanResidualProgram}
-use Rattle.cleaning.proofs.Root.{root-place-stays}
+use Rattle.cleaning.proofs.RootStays.{root-place-stays}
 use Rattle.cleaning.proofs.Counts.{round-count, round-unchanged, round-fewer}
 use Rattle.cleaning.proofs.Bound.{rounds-unfold, droppedInAll}
 

@@ -1,28 +1,20 @@
 -- What a round asks of the program's call sites, which are collected once: a site is there as long as its sentence is kept.
 use Prim.Native.Nat.{ℕ}
-use mathlib.Core.Bool.{Bool, _&&_, not}
+use mathlib.Core.Bool.{Bool, true, false, _&&_, not}
 use mathlib.Core.List.{List}
 use Rattle.image.specs.Syntax.{Name, Terms}
-use Rattle.symbols.specs.Names.{sameName}
 use Rattle.overlap.specs.Search.{patternsOverlap}
 use Rattle.restrictions.specs.Lists.{any}
-use Rattle.restrictions.specs.Sites.{restrictionIsCharacterisable}
 use Rattle.restrictions.specs.Entries.{Held}
+use Rattle.index.specs.Calls.{isListed}
 use Rattle.cleaning.specs.Cleaning.{isDisjoint}
-
--- "Names meet without regard to ASCII case": the site calls a function named f.
-unfoldable pub isCallOf : Name → Held → Bool
-isCallOf f x = sameName (x .site .callee) f
-
-unfoldable pub isPlain : Held → Bool
-isPlain x = restrictionIsCharacterisable (x .site .argument)
 
 -- Of the sites that are there: one that makes f uncharacterised, one that restricts it, one that the pattern p is not Disjoint from.
 unfoldable pub opens : (ℕ → Bool) → Name → Held → Bool
-opens keep f x = keep (x .sentence) && (isCallOf f x && not (isPlain x))
+opens keep f x = keep (x .sentence) && isListed false f x
 
 unfoldable pub restricts : (ℕ → Bool) → Name → Held → Bool
-restricts keep f x = keep (x .sentence) && (isCallOf f x && isPlain x)
+restricts keep f x = keep (x .sentence) && isListed true f x
 
 unfoldable pub isMet : Terms → Held → Bool
 isMet p x = not (isDisjoint (patternsOverlap p (x .site .argument)))

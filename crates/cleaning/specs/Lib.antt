@@ -6,3 +6,7 @@ pub mod Kept
 pub mod KeptSites
 pub mod Asked
 pub mod History
+pub mod Indexed
+pub mod Walks
+pub mod RoundDone
+pub mod ToldReport

@@ -1,1 +1,3 @@
-// Cleaning by rounds.
+// Rounds over the entries of work.
+pub mod root;
+pub mod walks;

@@ -25,7 +25,7 @@ pub struct Found {
 // The fuel of each pair of sequences.
 const OVERLAP_FUEL: u32 = 4096;
 
-fn is_overlap(v: Verdict) -> bool
+pub fn is_overlap(v: Verdict) -> bool
     ensures { λ r. ⌜ r ≡ isOverlap v ⌝ }
 {
     match v {
@@ -35,7 +35,7 @@ fn is_overlap(v: Verdict) -> bool
     }
 }
 
-fn is_disjoint(v: Verdict) -> bool
+pub fn is_disjoint(v: Verdict) -> bool
     ensures { λ r. ⌜ r ≡ isDisjoint v ⌝ }
 {
     match v {

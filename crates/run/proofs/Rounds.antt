@@ -18,7 +18,7 @@ use Rattle.restrictions.proofs.Lists.{Some}
 use Rattle.restrictions.proofs.Covered.{covered}
 use Rattle.cleaning.specs.Cleaning.{Standing, standing, rejected, accepted, keptOf, change, LeftAlone, changes, Round, round, changed, leftBy, dropsNothing, roundsUpTo, roundsOf, isRoot, rounds, after, cleanResidualProgram}
 use Rattle.cleaning.proofs.Rejected.{rejected-only}
-use Rattle.cleaning.proofs.Root.{SparesRoot, root-place-stays, root-stays, root-spares}
+use Rattle.cleaning.proofs.RootStays.{SparesRoot, root-place-stays, root-stays, root-spares}
 use Rattle.run.specs.Run.{sentencesOf}
 use Rattle.run.specs.Cleaned.{Hands, Lacks, Finds, Cleaned}
 use Rattle.run.proofs.Lists.{Every, every-left, every-right, every-append}

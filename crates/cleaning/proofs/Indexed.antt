@@ -1,0 +1,131 @@
+-- The entries of work: what they say of sites and sentences, and what writing a round or a witness leaves.
+use Prim.Native.Nat.{ℕ, zero, suc, _+_, _/_, _%_, _<_, _≤_}
+use native.Mathlib.Omega.{arith}
+use mathlib.Core.Path.{_≡_, refl, sym, ap, subst, fun-ext, _∙_}
+use mathlib.Core.Bool.{Bool, true, false, _&&_, cond}
+use mathlib.Core.List.{List, [], _∷_, _++_}
+use mathlib.Core.Option.{some}
+use borrow.Author.Tests.{ltb-true, lt-ltb}
+use lib.Dec.{ltb}
+use lib.ListN.{length, getD, getElem?, drop}
+use Rattle.image.specs.Syntax.{Name, Terms, Function, Program}
+use Rattle.image.specs.Parts.{Sentence, SentenceAt, ownSentences}
+use Rattle.restrictions.specs.Sites.{Site}
+use Rattle.restrictions.specs.Entries.{Held, Entry, heldBy, entrySentence}
+use Rattle.restrictions.specs.Numbered.{ownSites, heldSites}
+use Rattle.index.specs.declared.Plan.{Plan}
+use Rattle.index.specs.Layout.{heads, lines, witnesses, marks, calls, links}
+use Rattle.index.specs.First.{First}
+use Rattle.index.specs.Tables.{sentencesBefore, FunctionEntry, SentenceEntry}
+use Rattle.index.specs.Calls.{isListed}
+use Rattle.index.specs.Links.{listHead, entryNext, entryClass, isRepeat, Chain, Classed}
+use Rattle.index.proofs.First.{element-below}
+use Rattle.cleaning.specs.Asked.{restricts, isMet, meets}
+use Rattle.cleaning.specs.Indexed.{sitesOf, Indexed, fellOf, OnlyRounds}
+use Rattle.cleaning.specs.Walks.{Walkable, NoneMet, WitnessOf, OneEntry}
+
+-- ---- the number of a site's sentence
+
+held-below : (l : List Site) (k n : ℕ) (m : List Held) → k < n → ((i : ℕ) (x : Held) → getElem? m i ≡ some x → x .sentence < n)
+    → (i : ℕ) (x : Held) → getElem? (heldBy k l ++ m) i ≡ some x → x .sentence < n
+unfolding heldBy
+held-below [] k n m h f i x e = f i x e
+held-below (y ∷ l) k n m h f zero x e =
+    let z : record { sentence = k; site = y } ≡ x = cc in
+    subst (λ (u : Held). u .sentence < n) z h
+held-below (y ∷ l) k n m h f (suc i) x e = held-below l k n m h f i x e
+
+pub sites-below : (xs : List Sentence) (k n : ℕ) → k + length xs ≤ n → (i : ℕ) (x : Held) → getElem? (heldSites k xs) i ≡ some x → x .sentence < n
+unfolding heldSites
+sites-below [] k n h i x e = let z : _≡_ {A = ℕ} 0 1 = cc in absurd (omega arith)
+sites-below (y ∷ xs) k n h i x e = held-below (ownSites y) k n (heldSites (suc k) xs) (omega arith) (sites-below xs (suc k) n (omega arith)) i x e
+
+pub indexed-walkable : {b : List ℕ} {w : Program} {m : List ℕ} {p : Plan} → Indexed b w m p → (kind : Bool) (f : ℕ) (x : Function) → getElem? (w .functions) f ≡ some x → Walkable kind (x .name) (sitesOf w) m p
+indexed-walkable {b} {w} {m} {p} d kind f x e = record {
+  count = d .sites;
+  fits = d .fits;
+  small = d .small;
+  number = λ i y g. (d .site .entry i y g .sentence, sites-below (ownSentences (w .functions)) 0 (p .sentences) (omega (arith, d .sentences)) i y g);
+  chain = d .chained .chain kind f x e;
+}
+
+-- ---- the round in which a sentence fell
+
+pub fell-is : (p : Plan) (m : List ℕ) (s : ℕ) → s < p .sentences → fellOf p m s ≡ getD m (lines p + s) 0 / 32768 % 4096
+unfolding fellOf
+fell-is p m s h = ap (λ (t : Bool). cond t (getD m (lines p + s) 0 / 32768 % 4096) 0) (lt-ltb s (p .sentences) h)
+
+-- ---- what other entries leave
+
+-- A sentence's place is the same, so its entry names the same sentence.
+record PlaceOf (b : List ℕ) (n : ℕ) (x : Sentence) : Type 0 where
+  pub stands : SentenceAt (drop n b)
+  pub is : stands .sentence ≡ x
+
+entry-same : (b : List ℕ) (e d : ℕ) (x : Sentence) → d % 32768 ≡ e % 32768 → SentenceEntry b e x → SentenceEntry b d x
+entry-same b e d x h g =
+    let z = subst (λ (n : ℕ). PlaceOf b n x) (sym h) (record { stands = g .stands; is = g .is }) in
+    record { stands = z .stands; is = z .is }
+
+module _ {b : List ℕ} {w : Program} {old new : List ℕ} {p : Plan} (o : OnlyRounds p old new) (d : Indexed b w old p) where
+  function-before : (f : ℕ) (x : Function) → getElem? (w .functions) f ≡ some x → f < p .functions
+  function-before f x e = omega (arith, element-below (w .functions) f x e, d .functions)
+
+  call-kept : (i : ℕ) → getD new (calls p + i) 0 ≡ getD old (calls p + i) 0
+  call-kept i = o .after (calls p + i) (omega arith)
+
+  link-kept : (i : ℕ) → getD new (links p + i) 0 ≡ getD old (links p + i) 0
+  link-kept i = o .after (links p + i) (omega arith)
+
+  pub only-rounds-indexed : Indexed b w new p
+  only-rounds-indexed = record {
+    functions = d .functions;
+    sentences = d .sentences;
+    sites = d .sites;
+    fits = omega (arith, d .fits, o .length);
+    small = omega (arith, d .small, o .length);
+    function = record { entry = λ f x e. subst (λ (n : ℕ). FunctionEntry b n x (sentencesBefore f (w .functions))) (sym (o .before (0 + f) (omega (arith, function-before f x e)))) (d .function .entry f x e) };
+    sentence = record { entry = λ s x e. entry-same b (getD old (lines p + s) 0) (getD new (lines p + s) 0) x (o .place s (omega (arith, element-below (ownSentences (w .functions)) s x e, d .sentences))) (d .sentence .entry s x e) };
+    site = record { entry = λ i x e. subst (λ (n : ℕ). Entry b n x) (sym (call-kept i)) (d .site .entry i x e) };
+    headed = record { head = λ kind f x e. subst (λ (n : ℕ). First (isListed kind (x .name)) 0 (sitesOf w) (listHead kind n)) (sym (o .before (heads p + f) (omega (arith, function-before f x e)))) (d .headed .head kind f x e) };
+    chained = record {
+      chain = λ kind f x e. record {
+        next = λ i y h g t. subst (λ (n : ℕ). First (isListed kind (x .name)) (suc i) (sitesOf w) (entryNext n)) (sym (link-kept i)) (d .chained .chain kind f x e .next i y h g t);
+      };
+    };
+    classed = λ f x e. record {
+      class = λ i y g t. subst (λ (n : ℕ). First (isRepeat (x .name) y) 0 (sitesOf w) (entryClass n)) (sym (link-kept i)) (d .classed f x e .class i y g t);
+    };
+  }
+
+module _ (p : Plan) (s : ℕ) {old new : List ℕ} (h : s < p .sentences) (o : OneEntry old new (witnesses p + s)) where
+  pub one-witness : OnlyRounds p old new
+  one-witness = record {
+    length = o .length;
+    before = λ k g. o .others k (λ e. omega arith);
+    after = λ k g. o .others k (λ e. omega arith);
+    place = λ k g. ap (λ (n : ℕ). n % 32768) (o .others (lines p + k) (λ e. omega arith));
+  }
+
+  fell-at : (k : ℕ) (t : Bool) → ltb k (p .sentences) ≡ t → cond t (getD new (lines p + k) 0 / 32768 % 4096) 0 ≡ cond t (getD old (lines p + k) 0 / 32768 % 4096) 0
+  fell-at k true e = let g = ltb-true k (p .sentences) e in ap (λ (n : ℕ). n / 32768 % 4096) (o .others (lines p + k) (λ z. omega arith))
+  fell-at k false e = refl
+
+  pub fell-same : fellOf p new ≡ fellOf p old
+  unfolding fellOf
+  fell-same = fun-ext (λ k. fell-at k (ltb k (p .sentences)) refl)
+
+-- ---- sites only go
+
+less-met : (a b c d : Bool) → (a ≡ true → b ≡ true) → ((b && c) && d) ≡ false → ((a && c) && d) ≡ false
+less-met true true c d h e = e
+less-met true false c d h e = let z : false ≡ true = h refl in let y : _≡_ {A = ℕ} 0 1 = cc in absurd (omega arith)
+less-met false b c d h e = refl
+
+module _ {keep next : ℕ → Bool} (fewer : (s : ℕ) → next s ≡ true → keep s ≡ true) where
+  pub none-later : (f : Name) (p : Terms) (sites : List Held) (i : ℕ) → NoneMet keep f p sites i → NoneMet next f p sites i
+  unfolding meets restricts
+  none-later f p sites i h j x l e = less-met (next (x .sentence)) (keep (x .sentence)) (isListed true f x) (isMet p x) (fewer (x .sentence)) (h j x l e)
+
+  pub witness-later : {f : Name} {p : Terms} {sites : List Held} {d : ℕ} → WitnessOf keep f p sites d → WitnessOf next f p sites d
+  witness-later {f} {p} {sites} {d} w = record { within = w .within; before = λ k e. none-later f p sites k (w .before k e); itself = w .itself }

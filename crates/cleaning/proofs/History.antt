@@ -154,7 +154,7 @@ none-numbered test i (sentence h p c r b) =
     by ih true = refl
     by ih false = ih
 
-some-append : (test : ℕ → Bool) (i n m : ℕ) → someNumber test i (n + m) ≡ (someNumber test i n || someNumber test (i + n) m)
+pub some-append : (test : ℕ → Bool) (i n m : ℕ) → someNumber test i (n + m) ≡ (someNumber test i n || someNumber test (i + n) m)
 unfolding someNumber
 some-append test i zero m =
     let e : 0 + m ≡ m = omega arith in

@@ -22,3 +22,7 @@ pub mod Indexed
 pub mod Meeting
 pub mod Walking
 pub mod Witnesses
+pub mod Dropping
+pub mod Judging
+pub mod RoundCode
+pub mod AllRounds

@@ -62,7 +62,7 @@ module _ (w : Program) (old new : ℕ → ℕ) (r : ℕ) (positive : 0 < r) (bel
   abbrev FellAs : ℕ → Bool → Type 0
   FellAs s t = new s ≡ cond (isThere old r s && t) r (old s)
 
-  there-old : (s : ℕ) → isThere old r s ≡ eqb (old s) 0
+  pub there-old : (s : ℕ) → isThere old r s ≡ eqb (old s) 0
   unfolding isThere
   there-old s = ap (λ (t : Bool). eqb (old s) 0 || t) (lt-leb r (old s) (below s)) ∙ or-none (eqb (old s) 0)
     where

@@ -1,3 +1,4 @@
 // Rounds over the entries of work.
 pub mod root;
+pub mod rounds;
 pub mod walks;

@@ -189,7 +189,7 @@ module _ (w : Program) (keep next : ℕ → Bool) (sites : List Held) where
   unfolding change keptFunction
   change-dropped k i f l = dropped-left (judged k f) (rejects (rootPlace w) keep sites k (f .name)) (judged-rejects k f) keep next i (f .sentences) l
 
-  changed-functions : (k i : ℕ) (fs : List Function) → FunctionsLeft (rootPlace w) keep next sites k i fs → map changed (changes (isRoot w) (keptSites keep sites) k (keptFunctions keep i fs)) ≡ keptFunctions next i fs
+  pub changed-functions : (k i : ℕ) (fs : List Function) → FunctionsLeft (rootPlace w) keep next sites k i fs → map changed (changes (isRoot w) (keptSites keep sites) k (keptFunctions keep i fs)) ≡ keptFunctions next i fs
   unfolding changes keptFunctions changed keptFunction change isRoot
   changed-functions k i [] l = refl
   changed-functions k i (f ∷ fs) l =

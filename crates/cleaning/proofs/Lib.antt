@@ -26,3 +26,7 @@ pub mod Dropping
 pub mod Judging
 pub mod RoundCode
 pub mod AllRounds
+pub mod ListedProgram
+pub mod Classes
+pub mod LinkedLists
+pub mod SomeKept

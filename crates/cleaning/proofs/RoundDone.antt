@@ -24,7 +24,7 @@ use Rattle.cleaning.proofs.Owned.{before-next, before-most, before-late
 
 -- ---- from numbers to lists
 
-sentences-left : (reject : Terms → Bool) (u : Bool) (keep next : ℕ → Bool) (own : List Sentence) (i : ℕ) (b : Sentences)
+pub sentences-left : (reject : Terms → Bool) (u : Bool) (keep next : ℕ → Bool) (own : List Sentence) (i : ℕ) (b : Sentences)
     → ((t : ℕ) → t < sentenceCount b → getElem? own (i + t) ≡ getElem? (sentenceList b) t)
     → ((s : ℕ) (y : Sentence) → i ≤ s → s < i + sentenceCount b → getElem? own s ≡ some y → next s ≡ (keep s && not (reject (y .pattern) && u)))
     → SentencesLeft reject u keep next i b
@@ -40,13 +40,13 @@ sentences-left reject u keep next own i (sentence a p c r b) at h =
 
 module _ (root : ℕ) (keep next : ℕ → Bool) (sites : List Held) where
   -- What is left of the function x at place k, whose first sentence is number i.
-  abbrev LeftAt : ℕ → ℕ → Function → Type 0
+  abbrev pub LeftAt : ℕ → ℕ → Function → Type 0
   LeftAt k i x = SentencesLeft (rejects root keep sites k (x .name)) (someAccepted (rejects root keep sites k (x .name)) keep i (x .sentences)) keep next i (x .sentences)
 
-  moved : (x : Function) (k₁ k₂ i₁ i₂ : ℕ) → k₁ ≡ k₂ → i₁ ≡ i₂ → LeftAt k₁ i₁ x → LeftAt k₂ i₂ x
+  pub moved : (x : Function) (k₁ k₂ i₁ i₂ : ℕ) → k₁ ≡ k₂ → i₁ ≡ i₂ → LeftAt k₁ i₁ x → LeftAt k₂ i₂ x
   moved x k₁ k₂ i₁ i₂ e f l = subst (λ (i : ℕ). LeftAt k₂ i x) f (subst (λ (k : ℕ). LeftAt k i₁ x) e l)
 
-  functions-left : (fs : List Function) (k i : ℕ) → ((g : ℕ) (x : Function) → getElem? fs g ≡ some x → LeftAt (k + g) (i + sentencesBefore g fs) x) → FunctionsLeft root keep next sites k i fs
+  pub functions-left : (fs : List Function) (k i : ℕ) → ((g : ℕ) (x : Function) → getElem? fs g ≡ some x → LeftAt (k + g) (i + sentencesBefore g fs) x) → FunctionsLeft root keep next sites k i fs
   unfolding sentencesBefore
   functions-left [] k i h = tt
   functions-left (x ∷ fs) k i h = (

@@ -10,3 +10,4 @@ pub mod Indexed
 pub mod Walks
 pub mod RoundDone
 pub mod ToldReport
+pub mod Prepared

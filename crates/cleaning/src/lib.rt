@@ -1,4 +1,5 @@
 // Rounds over the entries of work.
+pub mod prepare;
 pub mod root;
 pub mod rounds;
 pub mod walks;

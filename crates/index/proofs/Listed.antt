@@ -28,6 +28,7 @@ pub record Listing (b : List ℕ) (from : ℕ) (old : List ℕ) (lines : ℕ) (n
   pub sentences-count : s + length rest ≡ length (ownSentences (h .functions))
   pub functions-in : (j : ℕ) (x : Function) → getElem? (h .functions) j ≡ some x → j < f → FunctionEntry b (getD new j 0) x (sentencesBefore j (h .functions))
   pub sentences-in : (j : ℕ) (x : Sentence) → getElem? (ownSentences (h .functions)) j ≡ some x → j < s → SentenceEntry b (getD new (lines + j) 0) x
+  pub fresh : (j : ℕ) → j < s → getD new (lines + j) 0 < 32768
   pub size : length new ≡ length old
   pub others : (k : ℕ) → lines + length (ownSentences (h .functions)) ≤ k → getD new k 0 ≡ getD old k 0
 
@@ -42,6 +43,7 @@ listing-first b from old lines h = record {
   sentences-count = omega arith;
   functions-in = λ j x q l. absurd (omega (arith, l));
   sentences-in = λ j x q l. absurd (omega (arith, l));
+  fresh = λ j l. absurd (omega (arith, l));
   size = refl;
   others = λ k l. refl;
 }
@@ -53,6 +55,10 @@ module _ {b : List ℕ} {from : ℕ} {old : List ℕ} {lines : ℕ} {new : List 
 
     pub listed-sentences : SentencesIn b (ownSentences (h .functions)) new lines
     listed-sentences = record { entry = λ j x q. w .sentences-in j x q (omega (arith, element-below (ownSentences (h .functions)) j q, w .sentences-count, ap length (place-none b p (w .place) l .0))) }
+
+    -- Above its place an entry of a sentence is empty.
+    pub listed-fresh : (j : ℕ) → j < length (ownSentences (h .functions)) → getD new (lines + j) 0 < 32768
+    listed-fresh j u = w .fresh j (omega (arith, u, w .sentences-count, ap length (place-none b p (w .place) l .0)))
 
   module _ (l : p < length b) where
     pub listing-close : (getD b p 0 ≡ 18 → ⊥) → (getD b p 0 ≡ 10 → ⊥) → Listing b from old lines new (p + 1) f s h
@@ -66,6 +72,7 @@ module _ {b : List ℕ} {from : ℕ} {old : List ℕ} {lines : ℕ} {new : List 
       sentences-count = w .sentences-count;
       functions-in = w .functions-in;
       sentences-in = w .sentences-in;
+      fresh = w .fresh;
       size = w .size;
       others = w .others;
     }
@@ -111,6 +118,7 @@ module _ {b : List ℕ} {from : ℕ} {old : List ℕ} {lines : ℕ} {new : List 
               (λ z. subst (λ (k : ℕ). getElem? (h .functions) k ≡ some x → FunctionEntry b (getD (set new f e) k 0) x (sentencesBefore k (h .functions))) (sym z) (here-entry x))
               u r;
           sentences-in = λ j x r u. subst (λ (v : ℕ). SentenceEntry b v x) (sym (getD-set-other new f (lines + j) e 0 (λ z. omega (arith, z, function-room room)))) (w .sentences-in j x r u);
+          fresh = λ j u. subst (λ (v : ℕ). v < 32768) (sym (getD-set-other new f (lines + j) e 0 (λ z. omega (arith, z, function-room room)))) (w .fresh j u);
           size = length-set new f e ∙ w .size;
           others = λ k u. getD-set-other new f k e 0 (λ z. omega (arith, z, u, function-room room)) ∙ w .others k u;
         }
@@ -146,6 +154,10 @@ module _ {b : List ℕ} {from : ℕ} {old : List ℕ} {lines : ℕ} {new : List 
               (λ u r. subst (λ (v : ℕ). SentenceEntry b v x) (sym (getD-set-other new (lines + s) (lines + j) p 0 (λ z. omega (arith, z, u)))) (w .sentences-in j x r u))
               (λ z. subst (λ (k : ℕ). getElem? (ownSentences (h .functions)) k ≡ some x → SentenceEntry b (getD (set new (lines + s) p) (lines + k) 0) x) (sym z) (new-entry x))
               u r;
+          fresh = λ j u. below-or-here (λ (k : ℕ). getD (set new (lines + s) p) (lines + k) 0 < 32768) j s
+              (λ u. subst (λ (v : ℕ). v < 32768) (sym (getD-set-other new (lines + s) (lines + j) p 0 (λ z. omega (arith, z, u)))) (w .fresh j u))
+              (λ z. subst (λ (k : ℕ). getD (set new (lines + s) p) (lines + k) 0 < 32768) (sym z) (subst (λ (v : ℕ). v < 32768) (sym (getD-set-same new (lines + s) p 0 fit)) small))
+              u;
           size = length-set new (lines + s) p ∙ w .size;
           others = λ k u. getD-set-other new (lines + s) k p 0 (λ z. omega (arith, z, u, sentence-below)) ∙ w .others k u;
         }

@@ -34,6 +34,7 @@ pub fn list_functions(b: &[u8], from: usize, work: &mut [u32], lines: usize)
     requires { ⌜ (length (now b) ≤ 32768) × (from ≤ length (now b)) × ((h : FunctionsAt (drop from (now b))) → (length (h .functions) ≤ lines) × (lines + length (ownSentences (h .functions)) ≤ length (now work))) × FunctionsAt (drop from (now b)) ⌝ }
     ensures functions { λ _. ⌜ ((h : FunctionsAt (drop from (now (b .entry)))) → FunctionsIn (now (b .entry)) (h .functions) (now (work .exit)) 0) ⌝ }
     ensures sentences { λ _. ⌜ ((h : FunctionsAt (drop from (now (b .entry)))) → SentencesIn (now (b .entry)) (ownSentences (h .functions)) (now (work .exit)) lines) ⌝ }
+    ensures fresh { λ _. ⌜ ((h : FunctionsAt (drop from (now (b .entry)))) (s : ℕ) → s < length (ownSentences (h .functions)) → getD (now (work .exit)) (lines + s) 0 < 32768) ⌝ }
     ensures others { λ _. ⌜ ((h : FunctionsAt (drop from (now (b .entry)))) → (length (now (work .exit)) ≡ length (now (work .entry))) × ((k : ℕ) → lines + length (ownSentences (h .functions)) ≤ k → getD (now (work .exit)) k 0 ≡ getD (now (work .entry)) k 0)) ⌝ }
 {
     let mut p = from;

@@ -5,7 +5,7 @@ use lib.ListN.{length, drop}
 use Rattle.image.specs.Parts.{FunctionsAt}
 use Rattle.restrictions.proofs.Readings.{sentence-there}
 use Rattle.restrictions.proofs.Places.{place-part, place-fits, place-sentence}
-use Rattle.index.proofs.Listed.{Listing, listing-first, listed-functions, listed-sentences, listing-close, listing-small, function-room, listing-function, sentence-below, listing-sentence, sentence-fits}
+use Rattle.index.proofs.Listed.{Listing, listing-first, listed-functions, listed-sentences, listed-fresh, listing-close, listing-small, function-room, listing-function, sentence-below, listing-sentence, sentence-fits}
 use Rattle.index.proofs.listing.list_functions.Statement.{statement}
 use Rattle.index.proofs.listing.list_functions.Tie as tie
 
@@ -141,7 +141,7 @@ same-length : tie.Need-same-length Inv-loop μ-loop
 same-length c = given (c .before) .size
 
 returns : tie.Need-returns Inv-loop μ-loop
-returns c = (λ h. listed-functions (c .before .loop .inv .1 h) (c .loop-test .left), (λ h. listed-sentences (c .before .loop .inv .1 h) (c .loop-test .left), λ h. (c .before .loop .inv .1 h .size, c .before .loop .inv .1 h .others)))
+returns c = (λ h. listed-functions (c .before .loop .inv .1 h) (c .loop-test .left), (λ h. listed-sentences (c .before .loop .inv .1 h) (c .loop-test .left), (λ h. listed-fresh (c .before .loop .inv .1 h) (c .loop-test .left), λ h. (c .before .loop .inv .1 h .size, c .before .loop .inv .1 h .others))))
 
 pub list-functions-spec : {M : Type 1} → statement M
 list-functions-spec =

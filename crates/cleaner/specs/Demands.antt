@@ -1,12 +1,13 @@
 -- What the entry points promise, one page: each promise is a theorem, proved by citing.
--- The code meets these definitions: `cleaner::overlap` ensures `r ≡ overlapAnswer image first second` for every image and numbers, with no `requires`, and `overlapValues` gives document 01's numbers for it.
-use Prim.Native.Nat.{ℕ, _-_, _≤_}
-use mathlib.Core.Path.{_≡_, refl, sym, ap, _∙_}
+-- The code meets these definitions, with no `requires`: `cleaner::overlap` ensures `r ≡ overlapAnswer image first second` for every image and numbers, and `cleaner::clean` ensures that its answer and the three lent slices at exit are those of `clean image lent`, for every image and every lent length. `overlapValues` and `cleanValues` give document 01's numbers for the answers.
+use Prim.Native.Nat.{ℕ, _-_, _<_, _≤_}
+use mathlib.Core.Path.{_≡_, refl, sym, ap, subst, _∙_}
 use mathlib.Core.Bool.{Bool, true, false}
 use mathlib.Core.List.{List}
 use mathlib.Core.Logic.{_↔_}
 use mathlib.Core.Option.{none, some}
 use lib.ListN.{length, take, getElem?}
+use borrow.Author.Tests.{lt-ltb, le-ltb}
 use Rattle.image.specs.Syntax.{Program}
 use Rattle.image.specs.Encode.{encode}
 use Rattle.image.specs.Limits.{pick, Valid}
@@ -28,9 +29,17 @@ use Rattle.overlap.proofs.Plain.{valid-plain}
 use Rattle.overlap.proofs.Disjoint.{disjoint-sound}
 use Rattle.overlap.proofs.Overlap.{overlap-sound}
 use Rattle.overlap.proofs.Unknown.{unknown-dry}
+use Rattle.cleaning.specs.Cleaning.{cleanResidualProgram}
+use Rattle.cleaning.specs.CleanReport.{cleanReport}
+use Rattle.cleaning.proofs.SomeKept.{cleaned-left}
+use Rattle.output.proofs.Kept.{kept-accepted}
+use Rattle.report.specs.Report.{formatCleanReport}
+use Rattle.run.specs.Run as the-run
+use Rattle.run.proofs.SameRun.{same-run}
+use Rattle.cleaner.specs.CleanAnswers.{Lent, cleanRefused, cleanedTo, refusing, zeroed, written, writing, cleanDecoded, entriesFor, clean}
 use Rattle.cleaner.specs.Answers.{comparePatterns, compareFound, compareSentences, overlapOf, overlapAnswer, refusalValues, comparisonValues, verdictNumber, overlapValues}
 
--- ---- Demand 1: "an accepted answer or one of refusals 1 to 13, each on its listed condition and on no other". The conditions, in order:
+-- ---- Demand 1: "an accepted answer or one of refusals 1 to 13, each on its listed condition and on no other". The conditions, in order, of Overlap:
 
 module _ (image : List ℕ) (first second : ℕ) where
   pub refused-1 : sized image ≡ false → overlapValues (overlapAnswer image first second) ≡ refusalValues 1 0
@@ -64,6 +73,50 @@ module _ (image : List ℕ) (first second : ℕ) where
       → overlapValues (overlapAnswer image first second) ≡ refusalValues 13 0
   unfolding overlapValues overlapAnswer overlapOf compareSentences compareFound
   refused-13-second w x e a b = rw (e, a, b)
+
+-- The conditions of Clean: what it leaves is told whole, the lent slices included.
+module _ (image : List ℕ) (l : Lent) where
+  pub clean-refused-1 : sized image ≡ false → clean image l ≡ refusing 1 0 l
+  unfolding clean
+  clean-refused-1 h = rw h
+
+  pub clean-refused-2 : sized image ≡ true → length (l .output) < length image → clean image l ≡ refusing 2 0 l
+  unfolding clean
+  clean-refused-2 h k = rw (h, lt-ltb (length (l .output)) (length image) k)
+
+  pub clean-refused-3 : sized image ≡ true → length image ≤ length (l .output) → length (l .work) < entriesFor image → clean image l ≡ refusing 3 0 l
+  unfolding clean
+  clean-refused-3 h k u = rw (h, le-ltb (length (l .output)) (length image) k, lt-ltb (length (l .work)) (entriesFor image) u)
+
+  module _ (size : sized image ≡ true) (output : length image ≤ length (l .output)) (work : entriesFor image ≤ length (l .work)) where
+    decoded : clean image l ≡ cleanDecoded (decode image) l
+    unfolding clean
+    decoded = rw (size, le-ltb (length (l .output)) (length image) output, le-ltb (length (l .work)) (entriesFor image) work)
+
+    pub clean-refused-4 : pointed image ≡ false → clean image l ≡ refusing 4 0 l
+    unfolding decode decodeSized cleanDecoded
+    clean-refused-4 k = decoded ∙ rw (size, k)
+
+    pub clean-refused-5-to-10 : (number left : ℕ) → pointed image ≡ true → run Stack.body 0 (take (bodyLength image) image) ≡ Read.refused number left → clean image l ≡ refusing number (bodyLength image - left) l
+    unfolding decode decodeSized settled cleanDecoded
+    clean-refused-5-to-10 n m k e = decoded ∙ rw (size, k, e)
+
+    pub clean-refused-11 : (w : Program) → pointed image ≡ true → run Stack.body 0 (take (bodyLength image) image) ≡ Read.value w → agrees image w ≡ false → clean image l ≡ refusing 11 0 l
+    unfolding decode decodeSized settled cleanDecoded
+    clean-refused-11 w k e a = decoded ∙ rw (size, k, e, a)
+
+    module _ (w : Program) (accepted : decode image ≡ Answer.accepted w) where
+      -- "12: report text longer than the report. The place is the length needed; work becomes zero."
+      pub clean-refused-12 : length (l .report) < length (formatCleanReport (cleanReport w))
+          → clean image l ≡ record { answer = cleanRefused 12 (length (formatCleanReport (cleanReport w))); lent = record { output = l .output; work = zeroed (l .work); report = l .report } }
+      unfolding cleanDecoded writing
+      clean-refused-12 k = decoded ∙ rw (accepted, lt-ltb (length (l .report)) (length (formatCleanReport (cleanReport w))) k)
+
+      -- Demand 2: output and report are the Rust's, the kept sentences encoded again and the text.
+      pub cleaned : length (formatCleanReport (cleanReport w)) ≤ length (l .report)
+          → clean image l ≡ record { answer = cleanedTo (length (encode (cleanResidualProgram w))) (length (formatCleanReport (cleanReport w))); lent = record { output = written (encode (cleanResidualProgram w)) (l .output); work = zeroed (l .work); report = written (formatCleanReport (cleanReport w)) (l .report) } }
+      unfolding cleanDecoded writing
+      cleaned k = decoded ∙ rw (accepted, le-ltb (length (l .report)) (length (formatCleanReport (cleanReport w))) k)
 
 -- An image is accepted as a program exactly if it is the program's encoding and the program is within the limits.
 pub accepted-images : (image : List ℕ) (w : Program) → Bytes image → (decode image ≡ Answer.accepted w) ↔ ((image ≡ encode w) × Valid w)
@@ -99,3 +152,23 @@ module _ {image : List ℕ} {first second : ℕ} {x y : Sentence} (c : Compared 
 
   pub unknown : (patternsOverlap (x .pattern) (y .pattern) ≡ Unknown) ↔ Dry start (x .pattern) (y .pattern)
   unknown = unknown-dry (x .pattern) (y .pattern) plain-first plain-second
+
+-- ---- Demand 3: raw and cleaned have the same run, "one claim about the whole event lists and endings of two runs with the same input, answer list and call limit: one of the accepted image's show and one of the show that Clean wrote from it".
+
+module _ (image : List ℕ) (bytes : Bytes image) (w : Program) (accepted : decode image ≡ Answer.accepted w) where
+  -- What Clean writes is accepted again, as the cleaned program.
+  pub cleaned-accepted : decode (encode (cleanResidualProgram w)) ≡ Answer.accepted (cleanResidualProgram w)
+  cleaned-accepted =
+      let left = cleaned-left w in
+      subst (λ (p : Program). decode (encode p) ≡ Answer.accepted p) (sym (left .is)) (kept-accepted (left .keep) w (encode-decode image w bytes accepted .1))
+
+  pub same-runs : (q : Program) → decode (encode (cleanResidualProgram w)) ≡ Answer.accepted q → (input : Expression) (answers : List Expression) (limit : ℕ) → the-run.run q input answers limit ≡ the-run.run w input answers limit
+  same-runs q e input answers limit =
+      ap (λ (p : Program). the-run.run p input answers limit) (same-answer (sym e ∙ cleaned-accepted)) ∙ same-run w input answers limit
+    where
+      program : Answer → Program
+      program (Answer.refused n p) = w
+      program (Answer.accepted p) = p
+
+      same-answer : {p r : Program} → Answer.accepted p ≡ Answer.accepted r → p ≡ r
+      same-answer f = ap program f

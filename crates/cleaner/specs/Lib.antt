@@ -1,3 +1,4 @@
 pub mod Answers
+pub mod CleanAnswers
 pub mod Parts
 pub mod Demands

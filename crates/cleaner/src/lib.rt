@@ -14,6 +14,17 @@ pub struct Comparison {
     pub spent: u32,
 }
 
+// How long the cleaned image and the report are.
+pub struct Lengths {
+    pub output: usize,
+    pub report: usize,
+}
+
+pub enum CleanAnswer {
+    Cleaned(Lengths),
+    Refused(Refusal),
+}
+
 pub enum OverlapAnswer {
     Compared(Comparison),
     Refused(Refusal),

@@ -1,0 +1,14 @@
+pub mod Leaders
+pub mod Places
+pub mod Telling
+pub mod UncoveredLists
+pub mod UncoveredLoops
+pub mod UndecidedLists
+pub mod UndecidedLoops
+pub mod Verdicts
+pub mod Opened
+pub mod Pieces
+pub mod FallenList
+pub mod Repeating
+pub mod RemovedLines
+pub mod Whole

@@ -1,0 +1,118 @@
+-- The numbers and the text of a report, as they are told after n rounds.
+use Prim.Native.Nat.{ℕ, suc, _+_, _*_, _<_, _≤_}
+use native.Mathlib.Omega.{arith}
+use mathlib.Core.Path.{_≡_, refl, sym, ap, ap₂, subst, _∙_}
+use mathlib.Core.Bool.{false}
+use mathlib.Core.List.{List, [], _∷_, _++_, map, flatten, flatMap, append-assoc}
+use lib.ListN.{length, length-append, length-map}
+use Rattle.image.specs.Syntax.{Program}
+use Rattle.image.specs.Parts.{ownSentences}
+use Rattle.symbols.specs.Names.{sameName}
+use Rattle.restrictions.specs.Lists.{firsts}
+use Rattle.restrictions.proofs.Numbered.{own-counted}
+use Rattle.index.specs.declared.Plan.{Plan}
+use Rattle.cleaning.specs.Root.{rootPlace}
+use Rattle.symbols.specs.Ascii.{ascii}
+use Rattle.cleaning.specs.Text.{Text}
+use Rattle.cleaning.specs.CleanReport.{RemovedSentence, UndecidedSentence, UncoveredRestriction, CleanReport, sameUndecided, sameUncovered}
+use Rattle.cleaning.specs.History.{isThere}
+use Rattle.cleaning.specs.Indexed.{sitesOf}
+use Rattle.cleaning.specs.ToldReport.{fallenFrom, sameFallen, removedOf, undecidedTold, uncoveredTold, runsAfter, openedNames, toldReport}
+use Rattle.report.specs.Fill.{Emitted}
+use Rattle.report.specs.Report.{removedLine, undecidedLine, uncoveredLine, uncharacterisedLine, dispatchLine, perfection, graphLine, lastLines, formatCleanReport}
+use Rattle.report.proofs.Fill.{emitted-append, emitted-same}
+use Rattle.lines.specs.declared.format.Figures.{Figures}
+use Rattle.lines.specs.Format.{countLine, topText, listsText}
+use Rattle.lines.specs.Figures.{FiguresOf}
+use Rattle.lines.proofs.Pieces.{report-pieces}
+
+-- A line has at least one letter, so there are no more lines than letters.
+lines-many : {A : Type 0} (line : A → Text) → ((x : A) → 1 ≤ length (line x)) → (l : List A) → length l ≤ length (flatMap line l)
+unfolding flatMap
+lines-many line h [] = omega arith
+lines-many line h (x ∷ l) = omega (arith, h x, lines-many line h l, length-append (line x) (flatMap line l))
+
+removed-some : (x : RemovedSentence) → 1 ≤ length (removedLine x)
+unfolding removedLine flatten ascii
+removed-some x = omega arith
+
+undecided-some : (x : UndecidedSentence) → 1 ≤ length (undecidedLine x)
+unfolding undecidedLine flatten ascii
+undecided-some x = omega arith
+
+uncovered-some : (x : UncoveredRestriction) → 1 ≤ length (uncoveredLine x)
+unfolding uncoveredLine flatten ascii
+uncovered-some x = omega arith
+
+module _ {s bytes : List ℕ} {p r : ℕ} where
+  pub removed-few : (l : List RemovedSentence) → Emitted s p (flatMap removedLine l) r bytes → length l ≤ r
+  removed-few l e = omega (arith, e .after, lines-many removedLine removed-some l)
+
+  pub undecided-few : (l : List UndecidedSentence) → Emitted s p (flatMap undecidedLine l) r bytes → length l ≤ r
+  undecided-few l e = omega (arith, e .after, lines-many undecidedLine undecided-some l)
+
+  pub uncovered-few : (l : List UncoveredRestriction) → Emitted s p (flatMap uncoveredLine l) r bytes → length l ≤ r
+  uncovered-few l e = omega (arith, e .after, lines-many uncoveredLine uncovered-some l)
+
+module _ (w : Program) (fell : ℕ → ℕ) (n : ℕ) where
+  next-is : n + 1 ≡ suc n
+  next-is = omega arith
+
+  -- The lists as they are emitted.
+  abbrev pub removedNow : List RemovedSentence
+  removedNow = map (removedOf w fell) (firsts sameFallen (fallenFrom w fell 1 n))
+
+  abbrev pub undecidedNow : List UndecidedSentence
+  undecidedNow = runsAfter sameUndecided [] (undecidedTold (isThere fell (n + 1)) (sitesOf w) 0 (w .functions))
+
+  abbrev pub uncoveredNow : List UncoveredRestriction
+  uncoveredNow = runsAfter sameUncovered [] (uncoveredTold (isThere fell (n + 1)) (sitesOf w) 0 (w .functions))
+
+  undecided-is : undecidedNow ≡ toldReport w fell n .undecided
+  unfolding toldReport
+  undecided-is = ap (λ (k : ℕ). runsAfter sameUndecided [] (undecidedTold (isThere fell k) (sitesOf w) 0 (w .functions))) next-is
+
+  uncovered-is : uncoveredNow ≡ toldReport w fell n .uncovered
+  unfolding toldReport
+  uncovered-is = ap (λ (k : ℕ). runsAfter sameUncovered [] (uncoveredTold (isThere fell k) (sitesOf w) 0 (w .functions))) next-is
+
+  removed-is : removedNow ≡ toldReport w fell n .removed
+  unfolding toldReport
+  removed-is = refl
+
+  pub figures-told : (g : Figures) → g .after ≡ toldReport w fell n .sentencesAfter → g .removed ≡ length (firsts sameFallen (fallenFrom w fell 1 n)) → g .undecided ≡ length undecidedNow → g .uncovered ≡ length uncoveredNow → FiguresOf (toldReport w fell n) g
+  figures-told g a b c d = record {
+    after = a;
+    removed = b ∙ (sym (length-map (firsts sameFallen (fallenFrom w fell 1 n)) (removedOf w fell)) ∙ ap length removed-is);
+    undecided = c ∙ ap length undecided-is;
+    uncovered = d ∙ ap length uncovered-is;
+  }
+
+  pub lists-told : (g : Figures) → FiguresOf (toldReport w fell n) g
+      → flatMap removedLine removedNow ++ (countLine (ascii "undecided: ") (g .undecided) ++ (flatMap undecidedLine undecidedNow ++ (countLine (ascii "uncovered: ") (g .uncovered) ++ flatMap uncoveredLine uncoveredNow))) ≡ listsText (toldReport w fell n)
+  unfolding listsText
+  lists-told g f =
+      λ i. flatMap removedLine (removed-is i) ++ (countLine (ascii "undecided: ") (f .undecided i) ++ (flatMap undecidedLine (undecided-is i) ++ (countLine (ascii "uncovered: ") (f .uncovered i) ++ flatMap uncoveredLine (uncovered-is i))))
+
+-- The report in the four pieces in which it is emitted.
+pub report-whole : (r : CleanReport)
+    → topText (r .functions) (r .sentencesBefore) (r .sentencesAfter) (r .rounds) (length (r .removed)) ++ (listsText r ++ lastLines r) ≡ formatCleanReport r
+unfolding listsText
+report-whole r =
+    ap (λ (t : Text). topText (r .functions) (r .sentencesBefore) (r .sentencesAfter) (r .rounds) (length (r .removed)) ++ t)
+    (regroup (flatMap removedLine (r .removed)) (countLine (ascii "undecided: ") (length (r .undecided))) (flatMap undecidedLine (r .undecided)) (countLine (ascii "uncovered: ") (length (r .uncovered))) (flatMap uncoveredLine (r .uncovered)) (lastLines r))
+    ∙ report-pieces r
+  where
+    regroup : (a b c d e z : Text) → (a ++ (b ++ (c ++ (d ++ e)))) ++ z ≡ a ++ (b ++ (c ++ (d ++ (e ++ z))))
+    regroup a b c d e z = simp append-assoc refl
+
+pub whole-told : (w : Program) (fell : ℕ → ℕ) (n : ℕ) (p : Plan) (root : ℕ) (g : Figures) → FiguresOf (toldReport w fell n) g → length (w .functions) ≡ p .functions → length (ownSentences (w .functions)) ≡ p .sentences → root ≡ rootPlace w
+    → topText (p .functions) (p .sentences) (g .after) n (g .removed)
+    ++ (listsText (toldReport w fell n) ++ (uncharacterisedLine (firsts sameName (openedNames root (sitesOf w) 0 (w .functions))) ++ graphLine (perfection false (g .undecided) (g .uncovered)))) ≡ formatCleanReport (toldReport w fell n)
+unfolding toldReport lastLines dispatchLine
+whole-told w fell n p root g f e h k =
+    let functions = sym e in
+    let sentences = sym h ∙ own-counted (w .functions) in
+    (λ i. topText (functions i) (sentences i) (f .after i) n (f .removed i)
+    ++ (listsText (toldReport w fell n) ++ (uncharacterisedLine (firsts sameName (openedNames (k i) (sitesOf w) 0 (w .functions))) ++ graphLine (perfection false (f .undecided i) (f .uncovered i)))))
+    ∙ report-whole (toldReport w fell n)

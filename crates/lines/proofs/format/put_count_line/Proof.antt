@@ -1,0 +1,26 @@
+-- `lines::format::put_count_line` meets its contract. Assumes nothing.
+use native.Mathlib.Omega.{arith}
+use mathlib.Core.List.{List, [], _∷_, _++_}
+use Rattle.report.proofs.Fill.{emitted-append, emitted-same}
+use Rattle.symbols.specs.Ascii.{ascii}
+use Rattle.lines.specs.Format.{counted, countLine}
+use borrow.Author.Needs.{needs}
+use Rattle.lines.proofs.format.put_count_line.Statement.{statement}
+use Rattle.lines.proofs.format.put_count_line.Tie as tie
+
+put-counted-requires : tie.Need-put-counted-requires
+put-counted-requires c κs = search needs
+
+put-byte-requires : tie.Need-put-byte-requires
+put-byte-requires c κs = search needs
+
+same-length : tie.Need-same-length
+same-length c = search needs
+
+returns : tie.Need-returns
+unfolding countLine ascii
+returns c = (emitted-append (counted ((c .before .before .before .before .before .before .before .before .before .before) .args .label .now) ((c .before .before .before .before .before .before .before .before .before .before) .args .n)) (10 ∷ []) ((c .before .before .before .before .before .before) .put-counted .ensures .0) ((c .before .before) .put-byte .ensures), omega (arith, (c .before .before .before .before .before .before) .put-counted .ensures .1, (c .before .before) .put-byte .ensures .after))
+
+pub put-count-line-spec : {M : Type 1} → statement M
+put-count-line-spec =
+    tie.close (tie.spec put-counted-requires put-byte-requires same-length returns)

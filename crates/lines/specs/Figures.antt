@@ -1,0 +1,38 @@
+-- The numbers of a report, for the program whose rounds have been told.
+use Prim.Native.Nat.{ℕ, suc, _<_}
+use mathlib.Core.Path.{_≡_}
+use mathlib.Core.List.{List, []}
+use lib.ListN.{length}
+use Rattle.image.specs.Syntax.{Program}
+use Rattle.image.specs.Encode.{ownSentenceCount}
+use Rattle.index.specs.declared.Plan.{Plan}
+use Rattle.cleaning.specs.CleanReport.{CleanReport}
+use Rattle.cleaning.specs.History.{startOf}
+use Rattle.cleaning.specs.Indexed.{fellOf}
+use Rattle.cleaning.specs.ToldReport.{toldReport}
+use Rattle.lines.specs.Removed.{Removing}
+use Rattle.lines.specs.declared.format.Figures.{Figures}
+
+-- They are the report's.
+pub record FiguresOf (r : CleanReport) (g : Figures) : Type 0 where
+  pub after : g .after ≡ r .sentencesAfter
+  pub removed : g .removed ≡ length (r .removed)
+  pub undecided : g .undecided ≡ length (r .undecided)
+  pub uncovered : g .uncovered ≡ length (r .uncovered)
+
+-- And small enough for their places in it.
+pub record Few (g : Figures) : Type 0 where
+  pub after : g .after < 100000000000000000
+  pub removed : g .removed < 100000000000000000
+  pub undecided : g .undecided < 100000000000000000
+  pub uncovered : g .uncovered < 100000000000000000
+
+-- What emission needs: n rounds have been told, the root's place, the numbers.
+pub record Reporting (b : List ℕ) (w : Program) (m : List ℕ) (p : Plan) (n : ℕ) (g : Figures) : Type 0 where
+  pub removing : Removing b w m p n
+  pub figures : FiguresOf (toldReport w (fellOf p m) n) g
+
+pub record SomeReporting (b m : List ℕ) (p : Plan) (n : ℕ) (g : Figures) : Type 0 where
+  pub program : Program
+  pub reporting : Reporting b program m p n g
+  pub few : Few g

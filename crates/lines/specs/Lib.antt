@@ -1,0 +1,10 @@
+pub mod Emitting
+pub mod Leading
+pub mod Listing
+pub mod Names
+pub mod Sentence
+pub mod Uncovered
+pub mod Undecided
+pub mod Format
+pub mod Removed
+pub mod Figures

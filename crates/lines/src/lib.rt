@@ -1,0 +1,12 @@
+// The report's lines, from the entries of work.
+pub mod alike;
+pub mod format;
+pub mod leading;
+pub mod names;
+pub mod removed;
+pub mod repeated;
+pub mod sentence;
+pub mod table;
+pub mod uncovered;
+pub mod undecided;
+pub mod verdict;

@@ -1,7 +1,7 @@
 -- Where every sentence is kept, the program is the same.
 use Prim.Native.Nat.{ℕ, suc, _+_, _<_}
 use native.Mathlib.Omega.{arith}
-use mathlib.Core.Path.{_≡_, refl, ap, _∙_}
+use mathlib.Core.Path.{_≡_, refl, ap, ap₂, _∙_}
 use mathlib.Core.Bool.{Bool, true, cond}
 use mathlib.Core.List.{List, [], _∷_}
 use Rattle.image.specs.Syntax.{Sentences, Function, Program}
@@ -25,3 +25,21 @@ all-functions (f ∷ fs) keep i h =
 pub all-kept : (keep : ℕ → Bool) (w : Program) → ((j : ℕ) → j < ownSentenceCount (w .functions) → keep j ≡ true) → keptProgram keep w ≡ w
 unfolding keptProgram
 all-kept keep w h = ap (λ (fs : List Function). record { declarations = w .declarations; functions = fs }) (all-functions (w .functions) keep 0 (λ j l. h j (omega (arith, l))))
+
+-- Only the marks of its sentences matter.
+same-sentences : (b : Sentences) (keep next : ℕ → Bool) (i : ℕ) → ((j : ℕ) → j < i + sentenceCount b → keep j ≡ next j) → keptSentences keep i b ≡ keptSentences next i b
+unfolding keptSentences sentenceCount
+same-sentences Sentences.empty keep next i h = refl
+same-sentences (Sentences.sentence a p c r b) keep next i h =
+    ap₂ (λ (t : Bool) (s : Sentences). cond t (Sentences.sentence a p c r s) s) (h i (omega arith)) (same-sentences b keep next (suc i) (λ j l. h j (omega (arith, l))))
+
+same-functions : (fs : List Function) (keep next : ℕ → Bool) (i : ℕ) → ((j : ℕ) → j < i + ownSentenceCount fs → keep j ≡ next j) → keptFunctions keep i fs ≡ keptFunctions next i fs
+unfolding keptFunctions keptFunction ownSentenceCount
+same-functions [] keep next i h = refl
+same-functions (f ∷ fs) keep next i h =
+    ap₂ (λ (b : Sentences) (l : List Function). record { span = f .span; visibility = f .visibility; name = f .name; sentences = b } ∷ l) (same-sentences (f .sentences) keep next i (λ j l. h j (omega (arith, l))))
+    (same-functions fs keep next (i + sentenceCount (f .sentences)) (λ j l. h j (omega (arith, l))))
+
+pub kept-same : (keep next : ℕ → Bool) (w : Program) → ((j : ℕ) → j < ownSentenceCount (w .functions) → keep j ≡ next j) → keptProgram keep w ≡ keptProgram next w
+unfolding keptProgram
+kept-same keep next w h = ap (λ (fs : List Function). record { declarations = w .declarations; functions = fs }) (same-functions (w .functions) keep next 0 (λ j l. h j (omega (arith, l))))

@@ -6,3 +6,4 @@ pub mod Walking
 pub mod Items
 pub mod Kept
 pub mod Whole
+pub mod MarkPart

@@ -1,4 +1,5 @@
 // The cleaned image.
 pub mod bytes;
+pub mod left;
 pub mod mark;
 pub mod writer;

@@ -1,1 +1,6 @@
 pub mod Sentences
+pub mod Wrote
+pub mod Delivered
+pub mod Ends
+pub mod AfterRounds
+pub mod Start

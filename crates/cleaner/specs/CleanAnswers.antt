@@ -64,8 +64,8 @@ unfoldable pub entriesFor : List ℕ → ℕ
 entriesFor image = (length image + 3) / 4
 
 -- "2: output shorter than the image. 3: work has fewer entries than the image length divided by 4, rounded up." "Order: 1, 2, 3, 4".
-unfoldable pub clean : List ℕ → Lent → Left
-clean image l =
+unfoldable pub cleanAnswer : List ℕ → Lent → Left
+cleanAnswer image l =
     cond (sized image)
     (cond (ltb (length (l .output)) (length image)) (refusing 2 0 l) (cond (ltb (length (l .work)) (entriesFor image)) (refusing 3 0 l) (cleanDecoded (decode image) l)))
     (refusing 1 0 l)

@@ -1,5 +1,5 @@
 -- What the entry points promise, one page: each promise is a theorem, proved by citing.
--- The code meets these definitions, with no `requires`: `cleaner::overlap` ensures `r ≡ overlapAnswer image first second` for every image and numbers, and `cleaner::clean` ensures that its answer and the three lent slices at exit are those of `clean image lent`, for every image and every lent length. `overlapValues` and `cleanValues` give document 01's numbers for the answers.
+-- The code meets these definitions, with no `requires`: `cleaner::overlap` ensures `r ≡ overlapAnswer image first second` for every image and numbers, and `cleaner::clean` ensures that its answer and the three lent slices at exit are those of `cleanAnswer image lent`, for every image and every lent length. `overlapValues` and `cleanValues` give document 01's numbers for the answers.
 use Prim.Native.Nat.{ℕ, _-_, _<_, _≤_}
 use mathlib.Core.Path.{_≡_, refl, sym, ap, subst, _∙_}
 use mathlib.Core.Bool.{Bool, true, false}
@@ -36,7 +36,7 @@ use Rattle.output.proofs.Kept.{kept-accepted}
 use Rattle.report.specs.Report.{formatCleanReport}
 use Rattle.run.specs.Run as the-run
 use Rattle.run.proofs.SameRun.{same-run}
-use Rattle.cleaner.specs.CleanAnswers.{Lent, cleanRefused, cleanedTo, refusing, zeroed, written, writing, cleanDecoded, entriesFor, clean}
+use Rattle.cleaner.specs.CleanAnswers.{Lent, cleanRefused, cleanedTo, refusing, zeroed, written, writing, cleanDecoded, entriesFor, cleanAnswer}
 use Rattle.cleaner.specs.Answers.{comparePatterns, compareFound, compareSentences, overlapOf, overlapAnswer, refusalValues, comparisonValues, verdictNumber, overlapValues}
 
 -- ---- Demand 1: "an accepted answer or one of refusals 1 to 13, each on its listed condition and on no other". The conditions, in order, of Overlap:
@@ -76,45 +76,45 @@ module _ (image : List ℕ) (first second : ℕ) where
 
 -- The conditions of Clean: what it leaves is told whole, the lent slices included.
 module _ (image : List ℕ) (l : Lent) where
-  pub clean-refused-1 : sized image ≡ false → clean image l ≡ refusing 1 0 l
-  unfolding clean
+  pub clean-refused-1 : sized image ≡ false → cleanAnswer image l ≡ refusing 1 0 l
+  unfolding cleanAnswer
   clean-refused-1 h = rw h
 
-  pub clean-refused-2 : sized image ≡ true → length (l .output) < length image → clean image l ≡ refusing 2 0 l
-  unfolding clean
+  pub clean-refused-2 : sized image ≡ true → length (l .output) < length image → cleanAnswer image l ≡ refusing 2 0 l
+  unfolding cleanAnswer
   clean-refused-2 h k = rw (h, lt-ltb (length (l .output)) (length image) k)
 
-  pub clean-refused-3 : sized image ≡ true → length image ≤ length (l .output) → length (l .work) < entriesFor image → clean image l ≡ refusing 3 0 l
-  unfolding clean
+  pub clean-refused-3 : sized image ≡ true → length image ≤ length (l .output) → length (l .work) < entriesFor image → cleanAnswer image l ≡ refusing 3 0 l
+  unfolding cleanAnswer
   clean-refused-3 h k u = rw (h, le-ltb (length (l .output)) (length image) k, lt-ltb (length (l .work)) (entriesFor image) u)
 
   module _ (size : sized image ≡ true) (output : length image ≤ length (l .output)) (work : entriesFor image ≤ length (l .work)) where
-    decoded : clean image l ≡ cleanDecoded (decode image) l
-    unfolding clean
+    decoded : cleanAnswer image l ≡ cleanDecoded (decode image) l
+    unfolding cleanAnswer
     decoded = rw (size, le-ltb (length (l .output)) (length image) output, le-ltb (length (l .work)) (entriesFor image) work)
 
-    pub clean-refused-4 : pointed image ≡ false → clean image l ≡ refusing 4 0 l
+    pub clean-refused-4 : pointed image ≡ false → cleanAnswer image l ≡ refusing 4 0 l
     unfolding decode decodeSized cleanDecoded
     clean-refused-4 k = decoded ∙ rw (size, k)
 
-    pub clean-refused-5-to-10 : (number left : ℕ) → pointed image ≡ true → run Stack.body 0 (take (bodyLength image) image) ≡ Read.refused number left → clean image l ≡ refusing number (bodyLength image - left) l
+    pub clean-refused-5-to-10 : (number left : ℕ) → pointed image ≡ true → run Stack.body 0 (take (bodyLength image) image) ≡ Read.refused number left → cleanAnswer image l ≡ refusing number (bodyLength image - left) l
     unfolding decode decodeSized settled cleanDecoded
     clean-refused-5-to-10 n m k e = decoded ∙ rw (size, k, e)
 
-    pub clean-refused-11 : (w : Program) → pointed image ≡ true → run Stack.body 0 (take (bodyLength image) image) ≡ Read.value w → agrees image w ≡ false → clean image l ≡ refusing 11 0 l
+    pub clean-refused-11 : (w : Program) → pointed image ≡ true → run Stack.body 0 (take (bodyLength image) image) ≡ Read.value w → agrees image w ≡ false → cleanAnswer image l ≡ refusing 11 0 l
     unfolding decode decodeSized settled cleanDecoded
     clean-refused-11 w k e a = decoded ∙ rw (size, k, e, a)
 
     module _ (w : Program) (accepted : decode image ≡ Answer.accepted w) where
       -- "12: report text longer than the report. The place is the length needed; work becomes zero."
       pub clean-refused-12 : length (l .report) < length (formatCleanReport (cleanReport w))
-          → clean image l ≡ record { answer = cleanRefused 12 (length (formatCleanReport (cleanReport w))); lent = record { output = l .output; work = zeroed (l .work); report = l .report } }
+          → cleanAnswer image l ≡ record { answer = cleanRefused 12 (length (formatCleanReport (cleanReport w))); lent = record { output = l .output; work = zeroed (l .work); report = l .report } }
       unfolding cleanDecoded writing
       clean-refused-12 k = decoded ∙ rw (accepted, lt-ltb (length (l .report)) (length (formatCleanReport (cleanReport w))) k)
 
       -- Demand 2: output and report are the Rust's, the kept sentences encoded again and the text.
       pub cleaned : length (formatCleanReport (cleanReport w)) ≤ length (l .report)
-          → clean image l ≡ record { answer = cleanedTo (length (encode (cleanResidualProgram w))) (length (formatCleanReport (cleanReport w))); lent = record { output = written (encode (cleanResidualProgram w)) (l .output); work = zeroed (l .work); report = written (formatCleanReport (cleanReport w)) (l .report) } }
+          → cleanAnswer image l ≡ record { answer = cleanedTo (length (encode (cleanResidualProgram w))) (length (formatCleanReport (cleanReport w))); lent = record { output = written (encode (cleanResidualProgram w)) (l .output); work = zeroed (l .work); report = written (formatCleanReport (cleanReport w)) (l .report) } }
       unfolding cleanDecoded writing
       cleaned k = decoded ∙ rw (accepted, le-ltb (length (l .report)) (length (formatCleanReport (cleanReport w))) k)
 

@@ -1,4 +1,9 @@
 // The entry points: every image and number is answered, and nothing is asked of the caller.
+mod alone;
+mod listed;
+mod told;
+mod whole;
+
 use image::part::Found as Place;
 use image::reader::Checked;
 use image::reader::Refusal;
@@ -6,6 +11,8 @@ use overlap::Verdict;
 ghost use mathlib.Core.Path.{_≡_};
 ghost use Rattle.image.specs.Parts.{Accepted};
 ghost use Rattle.cleaner.specs.Answers.{overlapAnswer, compareSentences, comparePatterns};
+ghost use Rattle.cleaner.specs.CleanAnswers.{cleanRefused, cleanAnswer};
+ghost use Rattle.cleaner.specs.Writing.{lending};
 ghost use Rattle.cleaner.specs.Parts.{PatternFrom};
 
 // What Overlap says of two patterns: the verdict, and the entries spent by the outermost pair.
@@ -28,6 +35,39 @@ pub enum CleanAnswer {
 pub enum OverlapAnswer {
     Compared(Comparison),
     Refused(Refusal),
+}
+
+// A refusal of Clean.
+pub fn refused(number: u8, place: usize) -> CleanAnswer
+    ensures { λ r. ⌜ r ≡ cleanRefused number place ⌝ }
+{
+    CleanAnswer::Refused(Refusal { number, place })
+}
+
+// Clean: the image without the sentences that no call can reach, and a report of it.
+pub fn clean(img: &[u8], output: &mut [u8], work: &mut [u32], report: &mut [u8]) -> CleanAnswer
+    ensures answered { λ r. ⌜ r ≡ cleanAnswer (now (img .entry)) (lending (now (output .entry)) (now (work .entry)) (now (report .entry))) .answer ⌝ }
+    ensures outputs { λ r. ⌜ now (output .exit) ≡ cleanAnswer (now (img .entry)) (lending (now (output .entry)) (now (work .entry)) (now (report .entry))) .lent .output ⌝ }
+    ensures works { λ r. ⌜ now (work .exit) ≡ cleanAnswer (now (img .entry)) (lending (now (output .entry)) (now (work .entry)) (now (report .entry))) .lent .work ⌝ }
+    ensures reports { λ r. ⌜ now (report .exit) ≡ cleanAnswer (now (img .entry)) (lending (now (output .entry)) (now (work .entry)) (now (report .entry))) .lent .report ⌝ }
+{
+    if img.len() < 12 {
+        return refused(1, 0);
+    }
+    if 32768 < img.len() {
+        return refused(1, 0);
+    }
+    if output.len() < img.len() {
+        return refused(2, 0);
+    }
+    if work.len() < (img.len() + 3) / 4 {
+        return refused(3, 0);
+    }
+    let v = image::reader::check(img);
+    match v {
+        Checked::Refused(f) => CleanAnswer::Refused(f),
+        Checked::Accepted => whole::clean_accepted(img, output, work, report),
+    }
 }
 
 // A sentence number not below the sentence count.

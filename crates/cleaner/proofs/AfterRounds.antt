@@ -1,0 +1,88 @@
+-- What marking the sentences that are left keeps, and what the rounds leave then.
+use Prim.Native.Nat.{ℕ, zero, suc, _+_, _<_, _≤_}
+use native.Mathlib.Omega.{arith}
+use mathlib.Core.Path.{_≡_, sym, ap, subst, fun-ext, _∙_}
+use mathlib.Core.Bool.{_&&_}
+use mathlib.Core.List.{List, map}
+use mathlib.Core.Option.{some, Option·getD}
+use lib.Dec.{eqb, ltb}
+use lib.ListN.{length, getD, getElem?}
+use Rattle.image.specs.Syntax.{Function, Program}
+use Rattle.image.specs.Parts.{ownSentences}
+use Rattle.restrictions.specs.Entries.{Entry}
+use Rattle.index.specs.declared.Plan.{Plan}
+use Rattle.index.specs.Layout.{heads, lines, marks, calls, links}
+use Rattle.index.specs.First.{First}
+use Rattle.index.specs.Tables.{sentencesBefore, FunctionEntry, SentenceEntry, Apart}
+use Rattle.index.specs.Tabled.{Tabled}
+use Rattle.index.specs.Calls.{isListed}
+use Rattle.index.specs.Links.{listHead, entryNext, entryClass, isRepeat}
+use Rattle.index.proofs.First.{element-below}
+use Rattle.cleaning.specs.Root.{entryPlace, rootPlace}
+use Rattle.cleaning.specs.Kept.{isKept}
+use Rattle.cleaning.specs.History.{Told}
+use Rattle.cleaning.specs.Indexed.{sitesOf, Indexed, fellOf}
+use Rattle.cleaning.specs.Prepared.{ProgramLinked}
+use Rattle.cleaning.specs.RoundDone.{RoundsReady, RoundsMade}
+use Rattle.cleaning.proofs.Indexed.{only-rounds-indexed}
+use Rattle.output.proofs.MarkPart.{fell-apart}
+use Rattle.cleaner.specs.Delivery.{marksIn}
+use Rattle.cleaner.specs.Done.{Done}
+
+-- Functions and sentences stand before the marks, sites and their lists behind them.
+module _ {b : List ℕ} {w : Program} {old new : List ℕ} {p : Plan} (o : Apart old new (marks p) (calls p)) (d : Indexed b w old p) where
+  function-before : (f : ℕ) (x : Function) → getElem? (w .functions) f ≡ some x → f < p .functions
+  function-before f x e = omega (arith, element-below (w .functions) f x e, d .functions)
+
+  call-kept : (i : ℕ) → getD new (calls p + i) 0 ≡ getD old (calls p + i) 0
+  call-kept i = o .after (calls p + i) (λ l. omega (arith, l))
+
+  link-kept : (i : ℕ) → getD new (links p + i) 0 ≡ getD old (links p + i) 0
+  link-kept i = o .after (links p + i) (λ l. omega (arith, l))
+
+  pub marks-indexed : Indexed b w new p
+  marks-indexed = record {
+    functions = d .functions;
+    sentences = d .sentences;
+    sites = d .sites;
+    fits = omega (arith, d .fits, o .length);
+    small = omega (arith, d .small, o .length);
+    function = record { entry = λ f x e. subst (λ (n : ℕ). FunctionEntry b n x (sentencesBefore f (w .functions))) (sym (o .before (0 + f) (omega (arith, function-before f x e)))) (d .function .entry f x e) };
+    sentence = record { entry = λ s x e. subst (λ (n : ℕ). SentenceEntry b n x) (sym (o .before (lines p + s) (omega (arith, element-below (ownSentences (w .functions)) s x e, d .sentences)))) (d .sentence .entry s x e) };
+    site = record { entry = λ i x e. subst (λ (n : ℕ). Entry b n x) (sym (call-kept i)) (d .site .entry i x e) };
+    headed = record { head = λ kind f x e. subst (λ (n : ℕ). First (isListed kind (x .name)) 0 (sitesOf w) (listHead kind n)) (sym (o .before (heads p + f) (omega (arith, function-before f x e)))) (d .headed .head kind f x e) };
+    chained = record {
+      chain = λ kind f x e. record {
+        next = λ i y h g t. subst (λ (n : ℕ). First (isListed kind (x .name)) (suc i) (sitesOf w) (entryNext n)) (sym (link-kept i)) (d .chained .chain kind f x e .next i y h g t);
+      };
+    };
+    classed = λ f x e. record {
+      class = λ i y g t. subst (λ (n : ℕ). First (isRepeat (x .name) y) 0 (sitesOf w) (entryClass n)) (sym (link-kept i)) (d .classed f x e .class i y g t);
+    };
+  }
+
+-- The functions' entries of linked work, for who looks for the root.
+pub linked-tabled : {b : List ℕ} {w : Program} {m : List ℕ} {p : Plan} → ProgramLinked b w m p → Tabled b m (p .functions) (w .functions)
+linked-tabled {p} l = record { entries = l .indexed .function; count = l .indexed .functions; fits = omega (arith, l .indexed .fits) }
+
+pub root-found : {root : ℕ} (w : Program) → root ≡ Option·getD (entryPlace (map (λ f. f .visibility) (w .functions))) zero → root ≡ rootPlace w
+unfolding rootPlace
+root-found w e = e
+
+pub linked-ready : {b : List ℕ} {w : Program} {m : List ℕ} {p : Plan} {root : ℕ} → ProgramLinked b w m p → root ≡ rootPlace w → RoundsReady b w m p root
+linked-ready l e = record { indexed = l .indexed; fell = l .fell; asked = l .asked; root-is = e }
+
+-- The rounds are done when the sentences that are left are marked.
+pub rounds-done : {b : List ℕ} {w : Program} {start old new : List ℕ} {p : Plan} {root n : ℕ} → length b ≤ 32768 → RoundsReady b w start p root → RoundsMade w start old p n → Apart old new (marks p) (calls p)
+    → ((s : ℕ) → isKept (marksIn p new) s ≡ (ltb s (p .sentences) && eqb (fellOf p old s) 0)) → Done b w new p root n
+rounds-done {b} {w} {start} {old} {new} {p} {root} {n} h r m a k =
+    let e = fun-ext (fell-apart p old new a) in
+    record {
+      removing = record {
+        readable = record { indexed = marks-indexed a (only-rounds-indexed (m .only) (r .indexed)); short = h };
+        told = subst (λ (f : ℕ → ℕ). Told w f n) (sym e) (m .told);
+        below = λ s. omega (arith, fell-apart p old new a s, m .below s);
+      };
+      root-is = r .root-is;
+      marked = λ s. k s ∙ ap (λ (v : ℕ). ltb s (p .sentences) && eqb v 0) (sym (fell-apart p old new a s));
+    }

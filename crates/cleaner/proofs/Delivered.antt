@@ -1,0 +1,81 @@
+-- What is delivered: the cleaned program by its marks, the report by its rounds.
+use Prim.Native.Nat.{ℕ, suc, _+_, _-_, _≤_, _<_}
+use native.Mathlib.Omega.{arith}
+use mathlib.Core.Path.{_≡_, refl, sym, ap, ap₂, _∙_}
+use mathlib.Core.Bool.{Bool, true, false, _&&_, _||_, or-false}
+use mathlib.Core.List.{List, [], _∷_, _++_}
+use lib.Dec.{eqb, ltb, leb}
+use lib.ListN.{length, take, drop}
+use borrow.Author.Tests.{lt-ltb, le-ltb, lt-leb}
+use Rattle.image.specs.Syntax.{Function, Program}
+use Rattle.image.specs.Encode.{ownSentenceCount, encode}
+use Rattle.image.specs.Parts.{Accepted}
+use Rattle.restrictions.proofs.Numbered.{own-counted}
+use Rattle.index.specs.declared.Plan.{Plan}
+use Rattle.index.specs.Layout.{marks, calls}
+use Rattle.cleaning.specs.Cleaning.{cleanResidualProgram}
+use Rattle.cleaning.specs.CleanReport.{cleanReport}
+use Rattle.cleaning.specs.Kept.{isKept, keptFunctions, keptProgram}
+use Rattle.cleaning.specs.History.{isThere, startOf}
+use Rattle.cleaning.specs.Indexed.{fellOf}
+use Rattle.cleaning.specs.ToldReport.{toldReport}
+use Rattle.cleaning.proofs.Kept.{kept-same}
+use Rattle.cleaning.proofs.History.{told-cleaned}
+use Rattle.cleaning.proofs.ToldReport.{told-report}
+use Rattle.output.specs.Marks.{NoneFrom, keptCount}
+use Rattle.output.proofs.Ones.{count-functions, count-le}
+use Rattle.cleaning.specs.Text.{Text}
+use Rattle.report.specs.Fill.{Emitted}
+use Rattle.report.specs.Report.{formatCleanReport}
+use Rattle.report.proofs.Fill.{filled-empty}
+use Rattle.cleaner.specs.CleanAnswers.{written}
+use Rattle.cleaner.specs.Delivery.{marksIn, Delivery}
+
+module _ {image : List ℕ} (a : Accepted image) {m : List ℕ} (p : Plan) {root n : ℕ} (d : Delivery image a m p root n) {ms : List ℕ} (ms-is : ms ≡ marksIn p m) where
+  sentences-are : p .sentences ≡ ownSentenceCount (a .program .functions)
+  sentences-are = sym (d .removing .readable .indexed .sentences) ∙ own-counted (a .program .functions)
+
+  kept-there : (s : ℕ) → s < ownSentenceCount (a .program .functions) → isThere (fellOf p m) (suc n) s ≡ isKept ms s
+  unfolding isThere
+  kept-there s l =
+      ap (λ (t : Bool). eqb (fellOf p m s) 0 || t) (lt-leb (suc n) (fellOf p m s) (d .removing .below s))
+      ∙ (or-false (eqb (fellOf p m s) 0) ∙ sym (ap (λ (x : List ℕ). isKept x s) ms-is ∙ (d .marked s ∙ ap (λ (t : Bool). t && eqb (fellOf p m s) 0) (lt-ltb s (p .sentences) (omega (arith, l, sentences-are))))))
+
+  pub none-from : NoneFrom (isKept ms) (ownSentenceCount (a .program .functions))
+  none-from s l = ap (λ (x : List ℕ). isKept x s) ms-is ∙ (d .marked s ∙ ap (λ (t : Bool). t && eqb (fellOf p m s) 0) (le-ltb s (p .sentences) (omega (arith, l, sentences-are))))
+
+  start-is : startOf (a .program) (fellOf p m) (suc n) ≡ keptProgram (isKept ms) (a .program)
+  unfolding startOf
+  start-is = kept-same (isThere (fellOf p m) (suc n)) (isKept ms) (a .program) kept-there
+
+  pub image-told : encode (cleanResidualProgram (a .program)) ≡ encode (keptProgram (isKept ms) (a .program))
+  image-told = ap encode (told-cleaned (a .program) (fellOf p m) n (d .removing .told) (d .static) ∙ start-is)
+
+  pub text-told : formatCleanReport (cleanReport (a .program)) ≡ formatCleanReport (toldReport (a .program) (fellOf p m) n)
+  text-told = ap formatCleanReport (told-report (a .program) (fellOf p m) n (d .removing .told) (d .static))
+
+  pub after-told : ownSentenceCount (keptFunctions (isKept ms) 0 (a .program .functions)) ≡ toldReport (a .program) (fellOf p m) n .sentencesAfter
+  unfolding toldReport keptProgram
+  after-told = sym (ap (λ (w : Program). ownSentenceCount (w .functions)) start-is)
+
+  pub after-few : ownSentenceCount (keptFunctions (isKept ms) 0 (a .program .functions)) ≤ p .sentences
+  after-few = omega (arith, count-functions (isKept ms) (a .program .functions) 0, count-le (isKept ms) (ownSentenceCount (a .program .functions)) 0, sentences-are)
+
+  pub sentences-few : p .sentences < 8192
+  sentences-few = omega (arith, d .removing .readable .indexed .fits, d .removing .readable .indexed .small)
+
+-- A part of length 0 holds nothing.
+no-length : (l : List ℕ) → length l ≡ 0 → l ≡ []
+no-length [] e = refl
+no-length (x ∷ l) e = absurd (omega (arith, e))
+
+-- The report when nothing has been written but into parts of no length.
+pub still : (part one report : List ℕ) (text : Text) (m : ℕ) → length part ≡ 0 → Emitted [] 0 text m one → one ++ (part ++ report) ≡ report
+still part one report text m e f = ap₂ (λ (x y : List ℕ). x ++ (y ++ report)) (f .left ∙ filled-empty text 0) (no-length part e)
+
+pub written-as : (image output output′ : List ℕ) (n : ℕ) → n ≡ length image → output′ ≡ image ++ drop n output → output′ ≡ written image output
+unfolding written
+written-as image output output′ n e f = f ∙ ap (λ (k : ℕ). image ++ drop k output) e
+
+pub marks-are : (m : List ℕ) (p : Plan) {end : ℕ} → end ≡ calls p → take (end - marks p) (drop (marks p) m) ≡ marksIn p m
+marks-are m p e = ap (λ (k : ℕ). take (k - marks p) (drop (marks p) m)) e

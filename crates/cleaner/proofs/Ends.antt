@@ -1,0 +1,117 @@
+-- How Clean ends: on each refusal, and where the image is accepted.
+use Prim.Native.Nat.{ℕ, zero, suc, _+_, _/_, _≤_, _<_}
+use native.Mathlib.Omega.{arith}
+use mathlib.Core.Path.{_≡_, refl, sym, ap, ap₂, subst, _∙_}
+use mathlib.Core.Bool.{Bool, true, false, cond}
+use mathlib.Core.List.{List, [], _∷_, map}
+use lib.Dec.{leb, ltb}
+use lib.ListN.{length, getD}
+use borrow.Author.Tests.{le-leb, lt-leb, lt-ltb, le-ltb}
+use Rattle.image.specs.Syntax.{Program}
+use Rattle.image.specs.Limits.{pick}
+use Rattle.image.specs.Decode.{Answer, sized, decode}
+use Rattle.image.specs.Parts.{Accepted}
+use Rattle.image.specs.Encode.{encode}
+use Rattle.image.specs.Tally.{checkedOf}
+use Rattle.image.specs.Steps.{refusal}
+use Rattle.image.specs.declared.reader.Checked.{Checked}
+use Rattle.image.specs.declared.reader.Refusal.{Refusal}
+use Rattle.cleaning.specs.Cleaning.{cleanResidualProgram}
+use Rattle.cleaning.specs.CleanReport.{cleanReport}
+use Rattle.report.specs.Report.{formatCleanReport}
+use Rattle.cleaner.specs.declared.CleanAnswer.{CleanAnswer}
+use Rattle.cleaner.specs.CleanAnswers.{Lent, Left, cleanRefused, cleanedTo, refusing, written, zeroed, writing, cleanDecoded, entriesFor, cleanAnswer}
+use Rattle.cleaner.specs.Writing.{writingOf, lending, Wrote}
+use Rattle.cleaner.specs.Demands.{clean-refused-1, clean-refused-2, clean-refused-3}
+
+sized-short : (image : List ℕ) → length image < 12 → sized image ≡ false
+unfolding sized
+sized-short image l = rw (lt-leb 12 (length image) l)
+
+sized-long : (image : List ℕ) → 32768 < length image → sized image ≡ false
+unfolding sized
+sized-long image l = rw (le-leb 12 (length image) (omega (arith, l)), lt-leb (length image) 32768 l)
+
+pub sized-right : (image : List ℕ) → 12 ≤ length image → length image ≤ 32768 → sized image ≡ true
+unfolding sized
+sized-right image l k = rw (le-leb 12 (length image) l, le-leb (length image) 32768 k)
+
+-- All that Clean leaves, in four equations.
+pub record Ended (image output work report : List ℕ) (answer : CleanAnswer) (output′ work′ report′ : List ℕ) : Type 0 where
+  pub answered : answer ≡ cleanAnswer image (lending output work report) .answer
+  pub outputs : output′ ≡ cleanAnswer image (lending output work report) .lent .output
+  pub works : work′ ≡ cleanAnswer image (lending output work report) .lent .work
+  pub reports : report′ ≡ cleanAnswer image (lending output work report) .lent .report
+
+cleared : (image text output work report : List ℕ) → writing image text (lending output work report) .lent .work ≡ zeroed work
+unfolding writing
+cleared image text output work report = by (ltb (length report) (length text))
+  where
+    by : (t : Bool)
+        → cond {A = Left} t (record { answer = cleanRefused 12 (length text); lent = record { output = output; work = zeroed work; report = report } })
+        (record { answer = cleanedTo (length image) (length text); lent = record { output = written image output; work = zeroed work; report = written text report } }) .lent .work ≡ zeroed work
+    by true = refl
+    by false = refl
+
+module _ (image output work report : List ℕ) where
+  ended-refusing : (n p : ℕ) → cleanAnswer image (lending output work report) ≡ refusing n p (lending output work report) → Ended image output work report (cleanRefused n p) output work report
+  unfolding refusing
+  ended-refusing n p e = record {
+    answered = sym (ap (λ (x : Left). x .answer) e);
+    outputs = sym (ap (λ (x : Left). x .lent .output) e);
+    works = sym (ap (λ (x : Left). x .lent .work) e);
+    reports = sym (ap (λ (x : Left). x .lent .report) e);
+  }
+
+  pub ended-short : length image < 12 → Ended image output work report (cleanRefused 1 0) output work report
+  ended-short l = ended-refusing 1 0 (clean-refused-1 image (lending output work report) (sized-short image l))
+
+  pub ended-long : 32768 < length image → Ended image output work report (cleanRefused 1 0) output work report
+  ended-long l = ended-refusing 1 0 (clean-refused-1 image (lending output work report) (sized-long image l))
+
+  module _ (least : 12 ≤ length image) (most : length image ≤ 32768) where
+    pub ended-output : length output < length image → Ended image output work report (cleanRefused 2 0) output work report
+    ended-output l = ended-refusing 2 0 (clean-refused-2 image (lending output work report) (sized-right image least most) l)
+
+    module _ (enough : length image ≤ length output) where
+      pub ended-work : length work < (length image + 3) / 4 → Ended image output work report (cleanRefused 3 0) output work report
+      unfolding entriesFor
+      ended-work l = ended-refusing 3 0 (clean-refused-3 image (lending output work report) (sized-right image least most) enough l)
+
+      module _ (entries : (length image + 3) / 4 ≤ length work) where
+        decoded : cleanAnswer image (lending output work report) ≡ cleanDecoded (decode image) (lending output work report)
+        unfolding cleanAnswer entriesFor
+        decoded = rw (sized-right image least most, le-ltb (length output) (length image) enough, le-ltb (length work) ((length image + 3) / 4) entries)
+
+        pub ended-refused : (n p : ℕ) → decode image ≡ Answer.refused n p → Ended image output work report (cleanRefused n p) output work report
+        unfolding cleanDecoded
+        ended-refused n p e = ended-refusing n p (decoded ∙ ap (λ (x : Answer). cleanDecoded x (lending output work report)) e)
+
+        accepted-is : (a : Accepted image) → cleanAnswer image (lending output work report) ≡ writingOf (a .program) (lending output work report)
+        unfolding cleanDecoded
+        accepted-is a = decoded ∙ ap (λ (x : Answer). cleanDecoded x (lending output work report)) (a .is)
+
+        pub ended-accepted : (a : Accepted image) (answer : CleanAnswer) (output′ work′ report′ : List ℕ) → Wrote (a .program) output report answer output′ report′ → work′ ≡ zeroed work → Ended image output work report answer output′ work′ report′
+        ended-accepted a answer output′ work′ report′ w z = record {
+          answered = w .answers work ∙ sym (ap (λ (x : Left). x .answer) (accepted-is a));
+          outputs = w .outputs work ∙ sym (ap (λ (x : Left). x .lent .output) (accepted-is a));
+          works = z ∙ (sym (cleared (encode (cleanResidualProgram (a .program))) (formatCleanReport (cleanReport (a .program))) output work report) ∙ sym (ap (λ (x : Left). x .lent .work) (accepted-is a)));
+          reports = w .reports work ∙ sym (ap (λ (x : Left). x .lent .report) (accepted-is a));
+        }
+
+-- Work whose every entry is zero.
+pub all-zero : (work work′ : List ℕ) → length work′ ≡ length work → ((k : ℕ) → k < length work → getD work′ k 0 ≡ 0) → work′ ≡ zeroed work
+unfolding zeroed
+all-zero [] [] e h = refl
+all-zero [] (y ∷ m) e h = absurd (omega (arith, e))
+all-zero (x ∷ l) [] e h = absurd (omega (arith, e))
+all-zero (x ∷ l) (y ∷ m) e h = ap₂ (λ (z : ℕ) (r : List ℕ). z ∷ r) (h 0 (omega arith)) (all-zero l m (omega (arith, e)) (λ k u. h (suc k) (omega (arith, u))))
+
+-- What check says of an image that it refuses.
+pub refused-is : (image : List ℕ) (v : Checked) (f : Refusal) → v ≡ checkedOf (decode image) → v ≡ Checked.Refused f → decode image ≡ Answer.refused (f .number) (f .place)
+unfolding checkedOf
+refused-is image v f e q = by (decode image) refl (sym e ∙ q)
+  where
+    by : (a : Answer) → decode image ≡ a → checkedOf a ≡ Checked.Refused f → decode image ≡ Answer.refused (f .number) (f .place)
+    by (Answer.refused n p) u z = let y : refusal n p ≡ f = cc in u ∙ ap (λ (x : Refusal). Answer.refused (x .number) (x .place)) y
+    by (Answer.accepted w) u z = absurd (let y : _≡_ {A = ℕ} 0 1 = cc in omega arith)

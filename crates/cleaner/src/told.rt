@@ -1,0 +1,47 @@
+// A program that is cleaned, once its rounds are done.
+use crate::CleanAnswer;
+use crate::Lengths;
+use crate::refused;
+use cleaning::walks::calls_of;
+use index::Plan;
+use lines::format::count_lists;
+use lines::format::format_clean_report;
+use output::mark::count_ones;
+use output::writer::write_kept;
+ghost use Prim.Native.Nat.{_≤_};
+ghost use lib.ListN.{length};
+ghost use Rattle.image.specs.Parts.{Accepted};
+ghost use Rattle.cleaner.specs.Writing.{Wrote};
+ghost use Rattle.cleaner.specs.Delivery.{Delivery, SomeDelivery};
+
+// The cleaned image and the report, if there is room for that.
+pub fn deliver(
+    img: &[u8],
+    output: &mut [u8],
+    work: &[u32],
+    plan: Plan,
+    root: usize,
+    rounds: usize,
+    report: &mut [u8],
+) -> CleanAnswer
+    requires { ⌜ SomeDelivery (now img) (now work) plan root rounds × (length (now img) ≤ length (now output)) ⌝ }
+    ensures { λ r. ⌜ ((a : Accepted (now (img .entry))) → Delivery (now (img .entry)) a (now (work .entry)) plan root rounds → Wrote (a .program) (now (output .entry)) (now (report .entry)) r (now (output .exit)) (now (report .exit))) ⌝ }
+{
+    let n = img.len() - 12;
+    let b = &img[..n];
+    let from = 2 * plan.functions + 2 * plan.sentences;
+    let end = calls_of(plan);
+    let marks = &work[from..end];
+    let after = count_ones(marks);
+    let figures = count_lists(b, work, plan, rounds, after, &mut report[..0]);
+    let needed = format_clean_report(b, work, plan, root, rounds, figures, &mut report[..0]);
+    if report.len() < needed {
+        return refused(12, needed);
+    }
+    format_clean_report(b, work, plan, root, rounds, figures, report);
+    let written = write_kept(img, marks, output);
+    CleanAnswer::Cleaned(Lengths {
+        output: written,
+        report: needed,
+    })
+}

@@ -1,4 +1,4 @@
-"""Checks the tools themselves: reader and encoder, generator, oracle, both corpora.
+"""Checks the tools themselves: reader and encoder, generator, oracle, the three corpora.
 
     python3 tools/selfcheck.py [ORACLE]
 
@@ -13,6 +13,7 @@ from pathlib import Path
 
 import generate
 import oracle as asking
+from clean_vectors import Asking
 from overlap_vectors import CASES, expected_answer, one_function, terms
 from reader import (
     Call,
@@ -145,8 +146,11 @@ def check_trailers():
 # -------------------------------------------------------------------- corpus
 
 
-def corpus_records(name, layout):
-    """Number, image and other fields of each record, by a second reader of the format."""
+def corpus_records(name, layout, following=lambda fields: 0):
+    """Number, image, other fields and bytes that follow of each record, by a second reader.
+
+    `following` says how many bytes follow a record besides its image.
+    """
     path = asking.REPOSITORY / "crates" / "vectors" / "data" / name
     if not path.exists():
         print(f"left out: no {name} corpus is written")
@@ -159,13 +163,16 @@ def corpus_records(name, layout):
         if length:
             image = data[place : place + length]
             place += length
+        more = data[place : place + following(fields)]
+        place += len(more)
         records += 1
-        yield records, image, fields
+        yield records, image, fields, more
     print(f"{records} records of the {name} corpus answered as written")
 
 
 def check_image_corpus():
-    for number, image, (position, value, *expected) in corpus_records("image", "<HHBBH"):
+    for number, image, fields, _ in corpus_records("image", "<HHBBH"):
+        position, value, *expected = fields
         question = bytearray(image)
         if position < len(question):
             question[position] = value
@@ -175,9 +182,24 @@ def check_image_corpus():
 
 
 def check_overlap_corpus(oracle):
-    for number, image, (first, second, *expected) in corpus_records("overlap", "<HHHBBHH"):
+    for number, image, fields, _ in corpus_records("overlap", "<HHHBBHH"):
+        first, second, *expected = fields
         found = list(expected_answer(oracle, image, first, second))
         check(found == expected, f"record {number} of the overlap corpus: {found}")
+
+
+def check_clean_corpus(oracle):
+    answers = Asking(oracle)
+    expected = b""
+    clean = corpus_records("clean", "<HHHHBBIHH", lambda fields: fields[4] * sum(fields[6:]))
+    for record, image, fields, more in clean:
+        *lent, number, follow, place, output, report = fields
+        expected = more if follow else expected
+        found = answers.answer(image, lent)
+        lengths = [len(part) for part in found[2:]]
+        check([*found[:2], *lengths] == [number, place, output, report], f"clean record {record}")
+        if number == 0:
+            check(found[2] + found[3] == expected, f"bytes of record {record} of the clean corpus")
 
 
 # -------------------------------------------------------------------- oracle
@@ -227,6 +249,7 @@ def check_oracle(path):
         print(f"oracle: worked example, 12 zeros and {len(CASES)} overlap cases as in document 01")
         check_oracle_on_programs(oracle)
         check_overlap_corpus(oracle)
+        check_clean_corpus(oracle)
 
 
 def check_oracle_on_programs(oracle):

@@ -1,4 +1,5 @@
 // Replays the stored questions of each file of data/ and compares each answer with the stored one.
+mod clean_answers;
 mod image_answers;
 mod overlap_answers;
 mod records;
@@ -10,12 +11,22 @@ use records::Asked;
 enum Kind {
     Image,
     Overlap,
+    Clean,
 }
 
-fn ask_next(kind: Kind, fd: i32, buf: &mut [u8], n: usize) -> Asked {
+// The image before has n bytes; output and report hold what Clean should leave of it.
+fn ask_next(
+    kind: Kind,
+    fd: i32,
+    buf: &mut [u8],
+    n: usize,
+    output: &mut [u8],
+    report: &mut [u8],
+) -> Asked {
     match kind {
         Kind::Image => image_answers::ask_next(fd, buf, n),
         Kind::Overlap => overlap_answers::ask_next(fd, buf, n),
+        Kind::Clean => clean_answers::ask_next(fd, buf, n, output, report),
     }
 }
 
@@ -33,12 +44,12 @@ fn noted(first_wrong: u64, ok: bool, asked: u64) -> u64 {
 }
 
 // Asks every record, at most a million of them, and notes the first whose answer differs, from 1.
-fn replay(kind: Kind, fd: i32, buf: &mut [u8]) -> Replayed {
+fn replay(kind: Kind, fd: i32, buf: &mut [u8], output: &mut [u8], report: &mut [u8]) -> Replayed {
     let mut n: usize = 0;
     let mut asked: u64 = 0;
     let mut first_wrong: u64 = 0;
     while asked < 1000000 {
-        let a = ask_next(kind, fd, buf, n);
+        let a = ask_next(kind, fd, buf, n, output, report);
         match a {
             Asked::Ended => {
                 return Replayed { asked, first_wrong };
@@ -72,8 +83,10 @@ fn print_replayed(name: &[u8], r: Replayed) {
 // Replays the file of that name.
 fn replay_file(name: &[u8], kind: Kind) {
     let mut buf = io::large_buffer();
+    let mut output = io::large_buffer();
+    let mut report = io::large_buffer();
     let fd = os::open_read(name);
-    let r = replay(kind, fd, &mut buf);
+    let r = replay(kind, fd, &mut buf, &mut output, &mut report);
     libc::close(fd);
     print_replayed(name, r);
 }
@@ -81,4 +94,5 @@ fn replay_file(name: &[u8], kind: Kind) {
 fn main() {
     replay_file(b"image", Kind::Image);
     replay_file(b"overlap", Kind::Overlap);
+    replay_file(b"clean", Kind::Clean);
 }

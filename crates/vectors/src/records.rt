@@ -1,4 +1,4 @@
-// What the records of both files share: an image that may stay for the next record, and the answer.
+// What the records of all files share: an image that may stay for the next record, and the answer.
 ghost use Rattle.io.specs.Counts.{Counts};
 
 // What became of a record: the length of its image, and whether the answer was the stored one.
@@ -12,7 +12,7 @@ pub fn pair(low: u8, high: u8) -> usize {
 }
 
 // No more than the buffer holds.
-fn within(n: usize, buf: &[u8]) -> usize
+pub fn within(n: usize, buf: &[u8]) -> usize
     ensures { λ r. ⌜ Counts r (now (buf .entry)) ⌝ }
 {
     if n <= buf.len() { n } else { buf.len() }

@@ -7,13 +7,15 @@ use Rattle.vectors.proofs.replay.Statement.{statement}
 use Rattle.vectors.proofs.replay.Tie as tie
 
 abbrev Inv-loop : tie.InvT-loop
-Inv-loop kind fd buf₀ n₀ asked₀ first-wrong₀ buf n asked first-wrong = length buf ≡ length buf₀
+Inv-loop kind fd buf₀ output₀ report₀ n₀ asked₀ first-wrong₀ buf output report n asked first-wrong =
+    (length buf ≡ length buf₀) × (length output ≡ length output₀) × (length report ≡ length report₀)
 
 abbrev μ-loop : tie.MeasureT-loop
-μ-loop kind fd buf₀ n₀ asked₀ first-wrong₀ buf n asked first-wrong = 1000000 - asked
+μ-loop kind fd buf₀ output₀ report₀ n₀ asked₀ first-wrong₀ buf output report n asked first-wrong =
+    1000000 - asked
 
 loop-holds : tie.Need-loop-holds Inv-loop μ-loop
-loop-holds c = refl
+loop-holds c = (refl, refl, refl)
 
 ask-next-requires : tie.Need-ask-next-requires Inv-loop μ-loop
 ask-next-requires c κs = search needs
@@ -23,6 +25,12 @@ enum-told c = search needs
 
 same-length : tie.Need-same-length Inv-loop μ-loop
 same-length c = search needs
+
+same-length-2 : tie.Need-same-length-2 Inv-loop μ-loop
+same-length-2 c = search needs
+
+same-length-3 : tie.Need-same-length-3 Inv-loop μ-loop
+same-length-3 c = search needs
 
 returns : tie.Need-returns Inv-loop μ-loop
 returns c = search needs
@@ -42,8 +50,14 @@ loop-less c = search needs
 loop-again : tie.Need-loop-again Inv-loop μ-loop
 loop-again c = search needs
 
-same-length-2 : tie.Need-same-length-2 Inv-loop μ-loop
-same-length-2 c = search needs
+same-length-4 : tie.Need-same-length-4 Inv-loop μ-loop
+same-length-4 c = search needs
+
+same-length-5 : tie.Need-same-length-5 Inv-loop μ-loop
+same-length-5 c = search needs
+
+same-length-6 : tie.Need-same-length-6 Inv-loop μ-loop
+same-length-6 c = search needs
 
 returns-2 : tie.Need-returns-2 Inv-loop μ-loop
 returns-2 c = search needs
@@ -58,11 +72,15 @@ replay-spec =
     ask-next-requires
     enum-told
     same-length
+    same-length-2
+    same-length-3
     returns
     enum-known-a
     add-asked
     noted-requires
     loop-less
     loop-again
-    same-length-2
+    same-length-4
+    same-length-5
+    same-length-6
     returns-2)

@@ -1,8 +1,8 @@
 // Whether two functions have the same name, and two sentences the same text.
+use compare::same_text;
 use index::Plan;
 use index::names::function_name;
 use index::table::place_of;
-use report::compare::same_text;
 use symbols::same_bytes;
 ghost use mathlib.Core.Path.{_≡_};
 ghost use mathlib.Core.Option.{some};

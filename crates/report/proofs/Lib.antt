@@ -1,10 +1,7 @@
 pub mod Fill
 pub mod Codes
 pub mod Leaves
-pub mod Letters
 pub mod Terms
-pub mod Walk
-pub mod Cursor
 pub mod Again
 pub mod Held
 pub mod Decimal

@@ -4,4 +4,3 @@ pub mod Report
 pub mod FormatTerm
 pub mod Parts
 pub mod Written
-pub mod Letters

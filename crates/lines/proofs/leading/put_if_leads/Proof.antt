@@ -14,7 +14,7 @@ use Rattle.index.specs.Calls.{isListed}
 use Rattle.lines.specs.Emitting.{Readable}
 use Rattle.lines.specs.Leading.{angledIf, isLeading}
 use Rattle.report.proofs.Fill.{emitted-nothing, emitted-same}
-use Rattle.report.proofs.Letters.{place}
+use Rattle.compare.proofs.Letters.{place}
 use Rattle.restrictions.specs.Entries.{Held}
 use borrow.Author.Needs.{needs}
 use Rattle.lines.proofs.leading.put_if_leads.Statement.{statement}

@@ -12,7 +12,7 @@ use Rattle.index.specs.Layout.{lines}
 use Rattle.lines.proofs.RemovedLines.{listed-firsts, restRounds, rounds-last, rounds-start, rounds-step}
 use Rattle.lines.specs.Removed.{Listed, Removing, longest}
 use Rattle.report.proofs.Fill.{emitted-length}
-use Rattle.report.proofs.Letters.{place}
+use Rattle.compare.proofs.Letters.{place}
 use Rattle.lines.proofs.removed.put_removed.Statement.{statement}
 use Rattle.lines.proofs.removed.put_removed.Tie as tie
 

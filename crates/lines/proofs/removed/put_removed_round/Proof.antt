@@ -15,7 +15,7 @@ use Rattle.lines.proofs.RemovedLines.{functions-last, functions-start, 
 use Rattle.lines.proofs.Repeating.{sentences-within}
 use Rattle.lines.specs.Removed.{Listed, Removing, longest}
 use Rattle.report.proofs.Fill.{emitted-length}
-use Rattle.report.proofs.Letters.{place}
+use Rattle.compare.proofs.Letters.{place}
 use Rattle.lines.proofs.removed.put_removed_round.Statement.{statement}
 use Rattle.lines.proofs.removed.put_removed_round.Tie as tie
 

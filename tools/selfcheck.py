@@ -1,4 +1,5 @@
-"""Checks the tools themselves: reader and encoder, generator, oracle, the three corpora.
+"""Checks the tools themselves: reader and encoder, generator, notation, oracle, the three
+corpora, and the examples.
 
     python3 tools/selfcheck.py [ORACLE]
 
@@ -9,23 +10,31 @@ without one the checks that need it are left out, and that is said.
 import struct
 import sys
 from collections import Counter
+from dataclasses import fields, is_dataclass
 from pathlib import Path
 
 import generate
 import oracle as asking
 from clean_vectors import Asking
+from image import NotationError, image_of, program_of, text_of
 from overlap_vectors import CASES, expected_answer, one_function, terms
 from reader import (
     Call,
+    Character,
+    Declaration,
     Function,
+    Identifier,
     Program,
     Refusal,
     Sentence,
+    Variable,
     encode,
     read_image,
 )
 
 PROGRAMS = 2000
+TEXTS = 500
+EXAMPLES = asking.REPOSITORY / "examples"
 
 
 def check(truth, what):
@@ -143,6 +152,106 @@ def check_trailers():
     print("sizes and trailers answered as document 01 says")
 
 
+# ------------------------------------------------------------------- notation
+
+
+def check_texts():
+    programs = [generate.good(seed) for seed in range(TEXTS)]
+    programs += [generate.typical(size, size) for size in (25, 300, 8192)]
+    programs += [named(bytes([byte])) for byte in range(33, 127)]
+    for number, program in enumerate(programs):
+        text = text_of(program)
+        again = program_of(text)
+        check(without_spans(again) == without_spans(program), f"program {number} from its text")
+        check(text_of(again) == text, f"program {number} is written alike")
+        check(read_image(encode(again)) == again, f"program {number} from its text is accepted")
+        check_spans(again, 0, len(text), f"spans of program {number}")
+    print(f"{len(programs)} programs written as text and read again, the same but for spans")
+
+
+def named(name):
+    """A program with one name in every place that has one, and with its bytes as characters."""
+    characters = [Character(code) for code in name]
+    result = [Call(name, [Identifier(name)]), *(Variable(kind, name) for kind in "ste")]
+    function = Function(name, [Sentence(characters, [], result)])
+    return Program([Declaration([name, name])], [function])
+
+
+def without_spans(record):
+    if isinstance(record, list):
+        return [without_spans(part) for part in record]
+    if not is_dataclass(record):
+        return record
+    names = [field.name for field in fields(record) if field.name != "span"]
+    return type(record), [without_spans(getattr(record, name)) for name in names]
+
+
+def check_spans(record, start, end, what):
+    """Each record lies in the one that holds it, and neighbours do not meet."""
+    if hasattr(record, "span"):
+        check(start <= record.span.start < record.span.end <= end, what)
+        start, end = record.span
+    for field in fields(record):
+        parts = getattr(record, field.name)
+        for part in filter(is_dataclass, parts if isinstance(parts, list) else ()):
+            check_spans(part, start, end, what)
+            start = part.span.end
+
+
+# Texts that no image can hold or that are not of the notation, with the answer's beginning.
+WRONG_TEXTS = (
+    ("F {", "line 1, column 4: a term, `,` or `=` must stand here"),
+    ("F { = <G e.X; }", "line 1, column 13: a term or `>` must stand here"),
+    ("F {\n  (<G>) = ; }", "line 2, column 4: a call or a block cannot stand in a pattern"),
+    ("F { , : [: {}] = ; }", "line 1, column 9: a call or a block cannot"),
+    ("F { = 'A }", "line 1, column 7: a quote that is not closed"),
+    ("F { = ''; }", "line 1, column 7: no character between"),
+    ("F { = '\u044f\\q'; }", "line 1, column 9: no such escape"),
+    ("F { = '\\x{D800}'; }", "line 1, column 8: no character has this code"),
+    ("F { = 7a; }", "line 1, column 7: a name begins with a letter"),
+    ("F { = `a b`; }", "line 1, column 9: a name holds only"),
+    ("F { = e.; }", "line 1, column 8: nothing of the notation"),
+    ("F { = e.X }", "line 1, column 11: a term or `;`"),
+    ("F {}\n$EXTERN G;", "line 2, column 1: declarations come before"),
+    ("e.X", "line 1, column 1: a name must stand here"),
+    ("/* F {}", "line 1, column 1: a comment that is not closed"),
+    ("F { = %; }", "line 1, column 7: nothing of the notation"),
+    (f"F {{ = {'A' * 64}; }}", "line 1, column 7: a name or number has"),
+    (f"F {{ = {'7' * 64}; }}", "line 1, column 7: a name or number has"),
+    (f"F {{ = {'(' * 33}", "line 1, column 39: brackets, calls and blocks nest"),
+    (f"$EXTERN {'A,' * 256}", "line 1, column 519: a declaration has"),
+    (f"F {{ = '{'A' * 2600}'; }}", "line 1, column 2612: the image would have"),
+)
+
+
+def check_wrong_texts():
+    for text, expected in WRONG_TEXTS:
+        try:
+            image_of(text.encode())
+            check(False, f"accepted: {text}")
+        except NotationError as error:
+            answer = error.line(text.encode())
+            check(answer.startswith(expected), f"{expected!r}, not {answer!r}: {text}")
+    print(f"{len(WRONG_TEXTS)} wrong texts answered with line and column")
+
+
+def check_examples():
+    texts = sorted(EXAMPLES.glob("*.ref"))
+    for path in texts:
+        image = path.with_suffix(".image").read_bytes()
+        check(image_of(path.read_bytes()) == image, f"the image of {path.name}")
+    print(f"{len(texts)} examples have the images of their texts")
+
+
+def check_example_reports(oracle):
+    reports = {path.stem: path.read_bytes() for path in sorted(EXAMPLES.glob("*.report"))}
+    reports["worked"] = WORKED_REPORT
+    for name, expected in reports.items():
+        report = oracle.clean(image_of((EXAMPLES / f"{name}.ref").read_bytes()))[1]
+        check(report == expected, f"the report of the example {name}")
+    print(f"oracle: {len(reports)} examples have their reports, the worked one document 01's")
+
+
 # -------------------------------------------------------------------- corpus
 
 
@@ -247,6 +356,7 @@ def check_oracle(path):
             answer = oracle.overlap(one_function([terms(first), terms(second)]), 0, 1)
             check(answer == (verdict, spent), f"overlap case {number}: {answer}")
         print(f"oracle: worked example, 12 zeros and {len(CASES)} overlap cases as in document 01")
+        check_example_reports(oracle)
         check_oracle_on_programs(oracle)
         check_overlap_corpus(oracle)
         check_clean_corpus(oracle)
@@ -280,6 +390,9 @@ def main():
     check_damage()
     check_refusals()
     check_trailers()
+    check_texts()
+    check_wrong_texts()
+    check_examples()
     check_image_corpus()
     path = Path(sys.argv[1]) if len(sys.argv) > 1 else asking.DEFAULT_PROGRAM
     if path.exists():

@@ -1,27 +1,30 @@
 -- What is delivered: the cleaned program by its marks, the report by its rounds.
 use Prim.Native.Nat.{ℕ, suc, _+_, _-_, _≤_, _<_}
 use native.Mathlib.Omega.{arith}
-use mathlib.Core.Path.{_≡_, refl, sym, ap, ap₂, _∙_}
+use mathlib.Core.Path.{_≡_, refl, sym, ap, ap₂, subst, _∙_}
 use mathlib.Core.Bool.{Bool, true, false, _&&_, _||_, or-false}
 use mathlib.Core.List.{List, [], _∷_, _++_}
 use lib.Dec.{eqb, ltb, leb}
-use lib.ListN.{length, take, drop}
+use lib.ListN.{length, take, drop, length-drop}
+use lib.Seq.{length-take-le, getD-take, getD-drop, ext-getD}
 use borrow.Author.Tests.{lt-ltb, le-ltb, lt-leb}
 use Rattle.image.specs.Syntax.{Function, Program}
 use Rattle.image.specs.Encode.{ownSentenceCount, encode}
 use Rattle.image.specs.Parts.{Accepted}
 use Rattle.restrictions.proofs.Numbered.{own-counted}
 use Rattle.index.specs.declared.Plan.{Plan}
-use Rattle.index.specs.Layout.{marks, calls}
+use Rattle.index.specs.Layout.{marks, calls, room}
 use Rattle.cleaning.specs.Cleaning.{cleanResidualProgram}
 use Rattle.cleaning.specs.CleanReport.{cleanReport}
 use Rattle.cleaning.specs.Kept.{isKept, keptFunctions, keptProgram}
 use Rattle.cleaning.specs.History.{isThere, startOf}
 use Rattle.cleaning.specs.Indexed.{fellOf}
+use Rattle.cleaning.specs.Room.{Used}
 use Rattle.cleaning.specs.ToldReport.{toldReport}
 use Rattle.cleaning.proofs.Kept.{kept-same}
 use Rattle.cleaning.proofs.History.{told-cleaned}
 use Rattle.cleaning.proofs.ToldReport.{told-report}
+use Rattle.cleaning.proofs.Room.{used-fell}
 use Rattle.output.specs.Marks.{NoneFrom, keptCount}
 use Rattle.output.proofs.Ones.{count-functions, count-le}
 use Rattle.cleaning.specs.Text.{Text}
@@ -79,3 +82,20 @@ written-as image output output′ n e f = f ∙ ap (λ (k : ℕ). image ++ drop 
 
 pub marks-are : (m : List ℕ) (p : Plan) {end : ℕ} → end ≡ calls p → take (end - marks p) (drop (marks p) m) ≡ marksIn p m
 marks-are m p e = ap (λ (k : ℕ). take (k - marks p) (drop (marks p) m)) e
+
+-- ---- verdicts have been asked meanwhile
+
+module _ {b : List ℕ} {p : Plan} {old new : List ℕ} (u : Used b p old new) where
+  pub marks-used : room p ≤ length old → marksIn p new ≡ marksIn p old
+  marks-used h =
+      let k = calls p - marks p in
+      let e : length (take k (drop (marks p) old)) ≡ k = length-take-le k (drop (marks p) old) (omega (arith, h, length-drop (marks p) old)) in
+      let f : length (take k (drop (marks p) new)) ≡ k = length-take-le k (drop (marks p) new) (omega (arith, h, u .length, length-drop (marks p) new)) in
+      ext-getD 0 (marksIn p new) (marksIn p old) (f ∙ sym e)
+      (λ i l.
+      getD-take k (drop (marks p) new) i 0 (omega (arith, l, f))
+      ∙ (getD-drop (marks p) new i 0 ∙ (u .columns (marks p + i) (omega (arith, l, f)) ∙ sym (getD-take k (drop (marks p) old) i 0 (omega (arith, l, f)) ∙ getD-drop (marks p) old i 0))))
+
+  -- A text is told by the rounds in work as by those before.
+  pub emitted-used : (w : Program) (n : ℕ) {lent left : List ℕ} {at : ℕ} → Emitted lent 0 (formatCleanReport (toldReport w (fellOf p new) n)) at left → Emitted lent 0 (formatCleanReport (toldReport w (fellOf p old) n)) at left
+  emitted-used w n {lent} {left} {at} = subst (λ (f : ℕ → ℕ). Emitted lent 0 (formatCleanReport (toldReport w f n)) at left) (used-fell u)

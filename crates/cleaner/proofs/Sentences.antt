@@ -23,7 +23,6 @@ use Rattle.image.proofs.Own.{element, no-element, own-valid}
 use Rattle.overlap.specs.Search.{patternsOverlap, spent, sequence, start}
 use Rattle.overlap.specs.declared.Found.{Found}
 use Rattle.overlap.proofs.Fuel.{fuel-falls}
-use Rattle.symbols.proofs.Parts.{part-rest}
 use Rattle.cleaner.specs.Parts.{PatternFrom}
 use Rattle.cleaner.specs.Answers.{overlapRefused, comparePatterns, compareFound, compareSentences, overlapOf, overlapAnswer}
 use Rattle.cleaner.specs.declared.OverlapAnswer.{OverlapAnswer}
@@ -51,8 +50,8 @@ pattern-from b p n fs v h =
 
 -- ---- the comparison
 
-abbrev pub pattern-part : (b : List ℕ) (p : ℕ) → PatternFrom b p → TermsAt Mode.pattern (take (length b - (p + 9)) (drop (p + 9) b))
-pattern-part b p x = record { terms = x .terms; rest = x .rest; is = part-rest b (p + 9) ∙ x .is; valid = x .valid }
+abbrev pub pattern-part : (b : List ℕ) (p : ℕ) → PatternFrom b p → TermsAt Mode.pattern (drop (p + 9) b)
+pattern-part b p x = record { terms = x .terms; rest = x .rest; is = x .is; valid = x .valid }
 
 pub compared : (a c : Terms) (f : Found) → f ≡ sequence start a c → OverlapAnswer.Compared (record { verdict = f .verdict; spent = 4096 - f .fuel }) ≡ comparePatterns a c
 unfolding comparePatterns patternsOverlap spent

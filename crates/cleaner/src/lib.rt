@@ -7,8 +7,11 @@ mod whole;
 use image::part::Found as Place;
 use image::reader::Checked;
 use image::reader::Refusal;
+use overlap::Room;
 use overlap::Verdict;
 ghost use mathlib.Core.Path.{_≡_};
+ghost use Prim.Native.Nat.{_≤_};
+ghost use lib.ListN.{length};
 ghost use Rattle.image.specs.Parts.{Accepted};
 ghost use Rattle.cleaner.specs.Answers.{overlapAnswer, compareSentences, comparePatterns};
 ghost use Rattle.cleaner.specs.CleanAnswers.{cleanRefused, cleanAnswer};
@@ -80,14 +83,20 @@ fn no_sentence() -> OverlapAnswer
     })
 }
 
-// The sentences at i and j of a body b, by their patterns.
+// The sentences at i and j of a body b, by their patterns. The search has entries of its own: one for each `e.` variable
+// of a body, twice, as a sentence may be compared with itself, and tables of 116 slots.
 fn compare(b: &[u8], i: usize, j: usize) -> OverlapAnswer
-    requires { ⌜ PatternFrom (now b) i × PatternFrom (now b) j ⌝ }
+    requires { ⌜ PatternFrom (now b) i × PatternFrom (now b) j × (length (now b) ≤ 32768) ⌝ }
     ensures { λ r. ⌜ ((x : PatternFrom (now (b .entry)) i) (y : PatternFrom (now (b .entry)) j) → r ≡ comparePatterns (x .terms) (y .terms)) ⌝ }
 {
     let p = i + 9;
     let q = j + 9;
-    let f = overlap::patterns_overlap(&b[p..], &b[q..]);
+    let mut room = [0u32; 6656];
+    let lent = Room {
+        frames: 5958,
+        slots: 116,
+    };
+    let f = overlap::patterns_overlap(b, p, q, &mut room, lent);
     let verdict = f.verdict;
     let spent = 4096 - f.fuel;
     OverlapAnswer::Compared(Comparison { verdict, spent })

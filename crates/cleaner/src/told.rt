@@ -6,11 +6,15 @@ use cleaning::walks::calls_of;
 use index::Plan;
 use lines::format::count_lists;
 use lines::format::format_clean_report;
+use lines::format::measure_clean_report;
 use output::mark::count_ones;
 use output::writer::write_kept;
 ghost use Prim.Native.Nat.{_≤_};
-ghost use lib.ListN.{length};
+ghost use lib.ListN.{length, take};
+ghost use mathlib.Core.Path.{_≡_};
+ghost use Rattle.image.specs.Decode.{bodyLength};
 ghost use Rattle.image.specs.Parts.{Accepted};
+ghost use Rattle.cleaning.specs.Room.{Remembering};
 ghost use Rattle.cleaner.specs.Writing.{Wrote};
 ghost use Rattle.cleaner.specs.Delivery.{Delivery, SomeDelivery};
 
@@ -18,28 +22,28 @@ ghost use Rattle.cleaner.specs.Delivery.{Delivery, SomeDelivery};
 pub fn deliver(
     img: &[u8],
     output: &mut [u8],
-    work: &[u32],
+    work: &mut [u32],
     plan: Plan,
     root: usize,
     rounds: usize,
     report: &mut [u8],
 ) -> CleanAnswer
-    requires { ⌜ SomeDelivery (now img) (now work) plan root rounds × (length (now img) ≤ length (now output)) ⌝ }
-    ensures { λ r. ⌜ ((a : Accepted (now (img .entry))) → Delivery (now (img .entry)) a (now (work .entry)) plan root rounds → Wrote (a .program) (now (output .entry)) (now (report .entry)) r (now (output .exit)) (now (report .exit))) ⌝ }
+    requires { ⌜ SomeDelivery (now img) (now work) plan root rounds × (length (now img) ≤ length (now output)) × Remembering (take (bodyLength (now img)) (now img)) plan (now work) ⌝ }
+    ensures wrote { λ r. ⌜ ((a : Accepted (now (img .entry))) → Delivery (now (img .entry)) a (now (work .entry)) plan root rounds → Wrote (a .program) (now (output .entry)) (now (report .entry)) r (now (output .exit)) (now (report .exit))) ⌝ }
+    ensures same { λ _. ⌜ length (now (work .exit)) ≡ length (now (work .entry)) ⌝ }
 {
     let n = img.len() - 12;
     let b = &img[..n];
     let from = 2 * plan.functions + 2 * plan.sentences;
     let end = calls_of(plan);
-    let marks = &work[from..end];
-    let after = count_ones(marks);
+    let after = count_ones(&work[from..end]);
     let figures = count_lists(b, work, plan, rounds, after, &mut report[..0]);
-    let needed = format_clean_report(b, work, plan, root, rounds, figures, &mut report[..0]);
+    let needed = measure_clean_report(b, work, plan, root, rounds, figures, &mut report[..0]);
     if report.len() < needed {
         return refused(12, needed);
     }
     format_clean_report(b, work, plan, root, rounds, figures, report);
-    let written = write_kept(img, marks, output);
+    let written = write_kept(img, &work[from..end], output);
     CleanAnswer::Cleaned(Lengths {
         output: written,
         report: needed,

@@ -1,7 +1,7 @@
 -- The entries of work: what they say of sites and sentences, and what writing a round or a witness leaves.
 use Prim.Native.Nat.{ℕ, zero, suc, _+_, _/_, _%_, _<_, _≤_}
 use native.Mathlib.Omega.{arith}
-use mathlib.Core.Path.{_≡_, refl, sym, ap, subst, fun-ext, _∙_}
+use mathlib.Core.Path.{_≡_, refl, sym, ap, subst, fun-ext}
 use mathlib.Core.Bool.{Bool, true, false, _&&_, cond}
 use mathlib.Core.List.{List, [], _∷_, _++_}
 use mathlib.Core.Option.{some}
@@ -14,7 +14,7 @@ use Rattle.restrictions.specs.Sites.{Site}
 use Rattle.restrictions.specs.Entries.{Held, Entry, heldBy, entrySentence}
 use Rattle.restrictions.specs.Numbered.{ownSites, heldSites}
 use Rattle.index.specs.declared.Plan.{Plan}
-use Rattle.index.specs.Layout.{heads, lines, witnesses, marks, calls, links}
+use Rattle.index.specs.Layout.{heads, lines, marks, calls, links}
 use Rattle.index.specs.First.{First}
 use Rattle.index.specs.Tables.{sentencesBefore, FunctionEntry, SentenceEntry}
 use Rattle.index.specs.Calls.{isListed}
@@ -22,7 +22,7 @@ use Rattle.index.specs.Links.{listHead, entryNext, entryClass, isRepeat, Chain,
 use Rattle.index.proofs.First.{element-below}
 use Rattle.cleaning.specs.Asked.{restricts, isMet, meets}
 use Rattle.cleaning.specs.Indexed.{sitesOf, Indexed, fellOf, OnlyRounds}
-use Rattle.cleaning.specs.Walks.{Walkable, NoneMet, WitnessOf, OneEntry}
+use Rattle.cleaning.specs.Walks.{Walkable, NoneMet, WitnessOf}
 
 -- ---- the number of a site's sentence
 
@@ -71,11 +71,14 @@ module _ {b : List ℕ} {w : Program} {old new : List ℕ} {p : Plan} (o : OnlyR
   function-before : (f : ℕ) (x : Function) → getElem? (w .functions) f ≡ some x → f < p .functions
   function-before f x e = omega (arith, element-below (w .functions) f x e, d .functions)
 
-  call-kept : (i : ℕ) → getD new (calls p + i) 0 ≡ getD old (calls p + i) 0
-  call-kept i = o .after (calls p + i) (omega arith)
+  site-before : (i : ℕ) (y : Held) → getElem? (sitesOf w) i ≡ some y → i < p .sites
+  site-before i y e = omega (arith, element-below (sitesOf w) i y e, d .sites)
 
-  link-kept : (i : ℕ) → getD new (links p + i) 0 ≡ getD old (links p + i) 0
-  link-kept i = o .after (links p + i) (omega arith)
+  call-kept : (i : ℕ) → i < p .sites → getD new (calls p + i) 0 ≡ getD old (calls p + i) 0
+  call-kept i l = o .after (calls p + i) (omega arith) (omega arith)
+
+  link-kept : (i : ℕ) → i < p .sites → getD new (links p + i) 0 ≡ getD old (links p + i) 0
+  link-kept i l = o .after (links p + i) (omega arith) (omega arith)
 
   pub only-rounds-indexed : Indexed b w new p
   only-rounds-indexed = record {
@@ -86,34 +89,26 @@ module _ {b : List ℕ} {w : Program} {old new : List ℕ} {p : Plan} (o : OnlyR
     small = omega (arith, d .small, o .length);
     function = record { entry = λ f x e. subst (λ (n : ℕ). FunctionEntry b n x (sentencesBefore f (w .functions))) (sym (o .before (0 + f) (omega (arith, function-before f x e)))) (d .function .entry f x e) };
     sentence = record { entry = λ s x e. entry-same b (getD old (lines p + s) 0) (getD new (lines p + s) 0) x (o .place s (omega (arith, element-below (ownSentences (w .functions)) s x e, d .sentences))) (d .sentence .entry s x e) };
-    site = record { entry = λ i x e. subst (λ (n : ℕ). Entry b n x) (sym (call-kept i)) (d .site .entry i x e) };
+    site = record { entry = λ i x e. subst (λ (n : ℕ). Entry b n x) (sym (call-kept i (site-before i x e))) (d .site .entry i x e) };
     headed = record { head = λ kind f x e. subst (λ (n : ℕ). First (isListed kind (x .name)) 0 (sitesOf w) (listHead kind n)) (sym (o .before (heads p + f) (omega (arith, function-before f x e)))) (d .headed .head kind f x e) };
     chained = record {
       chain = λ kind f x e. record {
-        next = λ i y h g t. subst (λ (n : ℕ). First (isListed kind (x .name)) (suc i) (sitesOf w) (entryNext n)) (sym (link-kept i)) (d .chained .chain kind f x e .next i y h g t);
+        next = λ i y h g t. subst (λ (n : ℕ). First (isListed kind (x .name)) (suc i) (sitesOf w) (entryNext n)) (sym (link-kept i (site-before i y g))) (d .chained .chain kind f x e .next i y h g t);
       };
     };
     classed = λ f x e. record {
-      class = λ i y g t. subst (λ (n : ℕ). First (isRepeat (x .name) y) 0 (sitesOf w) (entryClass n)) (sym (link-kept i)) (d .classed f x e .class i y g t);
+      class = λ i y g t. subst (λ (n : ℕ). First (isRepeat (x .name) y) 0 (sitesOf w) (entryClass n)) (sym (link-kept i (site-before i y g))) (d .classed f x e .class i y g t);
     };
   }
 
-module _ (p : Plan) (s : ℕ) {old new : List ℕ} (h : s < p .sentences) (o : OneEntry old new (witnesses p + s)) where
-  pub one-witness : OnlyRounds p old new
-  one-witness = record {
-    length = o .length;
-    before = λ k g. o .others k (λ e. omega arith);
-    after = λ k g. o .others k (λ e. omega arith);
-    place = λ k g. ap (λ (n : ℕ). n % 32768) (o .others (lines p + k) (λ e. omega arith));
-  }
-
-  fell-at : (k : ℕ) (t : Bool) → ltb k (p .sentences) ≡ t → cond t (getD new (lines p + k) 0 / 32768 % 4096) 0 ≡ cond t (getD old (lines p + k) 0 / 32768 % 4096) 0
-  fell-at k true e = let g = ltb-true k (p .sentences) e in ap (λ (n : ℕ). n / 32768 % 4096) (o .others (lines p + k) (λ z. omega arith))
-  fell-at k false e = refl
-
-  pub fell-same : fellOf p new ≡ fellOf p old
-  unfolding fellOf
-  fell-same = fun-ext (λ k. fell-at k (ltb k (p .sentences)) refl)
+-- Rounds stand in the sentences' entries.
+pub fell-from : (p : Plan) (old new : List ℕ) → ((s : ℕ) → s < p .sentences → getD new (lines p + s) 0 ≡ getD old (lines p + s) 0) → fellOf p new ≡ fellOf p old
+unfolding fellOf
+fell-from p old new h = fun-ext (λ k. by k (ltb k (p .sentences)) refl)
+  where
+    by : (k : ℕ) (t : Bool) → ltb k (p .sentences) ≡ t → cond t (getD new (lines p + k) 0 / 32768 % 4096) 0 ≡ cond t (getD old (lines p + k) 0 / 32768 % 4096) 0
+    by k true e = ap (λ (n : ℕ). n / 32768 % 4096) (h k (ltb-true k (p .sentences) e))
+    by k false e = refl
 
 -- ---- sites only go
 

@@ -1,8 +1,8 @@
 -- Judging a function's sentences, one after another: what their witnesses say, and what is left as it was.
-use Prim.Native.Nat.{ℕ, suc, _+_, _/_, _%_, _<_, _≤_}
+use Prim.Native.Nat.{ℕ, suc, _+_, _%_, _<_, _≤_}
 use native.Mathlib.Omega.{arith}
-use mathlib.Core.Path.{_≡_, refl, sym, ap, subst, fun-ext, _∙_}
-use mathlib.Core.Bool.{Bool, true, false, _&&_, _||_, not, cond, or-true, or-false, true≢false, false≢true}
+use mathlib.Core.Path.{_≡_, refl, sym, ap, subst, _∙_}
+use mathlib.Core.Bool.{Bool, true, false, _&&_, _||_, not, or-true, or-false, true≢false, false≢true}
 use mathlib.Core.List.{List}
 use mathlib.Core.Option.{some}
 use lib.Dec.{eqb, ltb}
@@ -13,13 +13,13 @@ use Rattle.image.specs.Parts.{Sentence, ownSentences}
 use Rattle.restrictions.proofs.Numbered.{own-counted}
 use Rattle.index.specs.declared.Plan.{Plan}
 use Rattle.index.specs.Layout.{lines, witnesses}
-use Rattle.index.specs.Tables.{sentencesBefore, Apart}
-use Rattle.index.proofs.First.{Element, element-at, element-same}
+use Rattle.index.specs.Tables.{sentencesBefore}
+use Rattle.index.proofs.First.{Element, element-at, element-below, element-same}
 use Rattle.cleaning.specs.History.{isThere}
 use Rattle.cleaning.specs.Indexed.{sitesOf, Indexed, fellOf, OnlyRounds}
-use Rattle.cleaning.specs.Walks.{Owns, OneEntry, WitnessOf, Witnessed, StillMet, SomeOwned}
+use Rattle.cleaning.specs.Walks.{Owns, OneColumn, ColumnsApart, WitnessOf, Witnessed, StillMet, SomeOwned}
 use Rattle.cleaning.specs.RoundDone.{isSpent, isMetBy, OneMet, JudgedUpto, SentenceJudged}
-use Rattle.cleaning.proofs.Indexed.{only-rounds-indexed}
+use Rattle.cleaning.proofs.Indexed.{only-rounds-indexed, fell-from}
 use Rattle.cleaning.proofs.Owned.{before-later, before-most}
 
 -- ---- one sentence
@@ -57,22 +57,17 @@ module _ (w : Program) (keep : ℕ → Bool) (m : List ℕ) (p : Plan) (x : Func
 
 -- ---- only witnesses are written
 
-module _ (p : Plan) (old new : List ℕ) (a b : ℕ) (within : b ≤ p .sentences) (h : Apart old new (witnesses p + a) (witnesses p + b)) where
+module _ (p : Plan) (old new : List ℕ) (a b : ℕ) (within : b ≤ p .sentences) (h : ColumnsApart p old new (witnesses p + a) (witnesses p + b)) where
   pub witnesses-only : OnlyRounds p old new
   witnesses-only = record {
     length = h .length;
-    before = λ k l. h .before k (omega (arith, l));
-    after = λ k l. h .after k (λ e. omega (arith, e, l, within));
-    place = λ s l. ap (λ (n : ℕ). n % 32768) (h .before (lines p + s) (omega (arith, l)));
+    before = λ k l. h .before k (omega (arith, l)) (omega (arith, l));
+    after = λ k l i. h .after k i (λ e. omega (arith, e, l, within));
+    place = λ s l. ap (λ (n : ℕ). n % 32768) (h .before (lines p + s) (omega (arith, l)) (omega (arith, l)));
   }
 
   pub witnesses-fell : fellOf p new ≡ fellOf p old
-  unfolding fellOf
-  witnesses-fell = fun-ext (λ k. by k (ltb k (p .sentences)) refl)
-    where
-      by : (k : ℕ) (t : Bool) → ltb k (p .sentences) ≡ t → cond t (getD new (lines p + k) 0 / 32768 % 4096) 0 ≡ cond t (getD old (lines p + k) 0 / 32768 % 4096) 0
-      by k true e = let g = ltb-true k (p .sentences) e in ap (λ (n : ℕ). n / 32768 % 4096) (h .before (lines p + k) (omega (arith, g)))
-      by k false e = refl
+  witnesses-fell = fell-from p old new (λ s l. h .before (lines p + s) (omega (arith, l)) (omega (arith, l)))
 
 -- ---- a sentence of one function only
 
@@ -97,15 +92,15 @@ module _ (w : Program) (keep : ℕ → Bool) (p : Plan) (f : ℕ) (x : Function)
     one = λ e. absurd (false≢true e);
   }
 
-  module _ (one two : List ℕ) (s : ℕ) (y : Sentence) (o : Owns w f x s y) (before r : Bool) (j : SentenceJudged w keep two p x s y before r) (others : OneEntry one two (witnesses p + s)) where
-    kept-witness : (t : ℕ) → (t ≡ s → ⊥) → getD two (witnesses p + t) 0 ≡ getD one (witnesses p + t) 0
-    kept-witness t d = others .others (witnesses p + t) (λ z. d (omega (arith, z)))
+  module _ (one two : List ℕ) (s : ℕ) (y : Sentence) (o : Owns w f x s y) (before r : Bool) (j : SentenceJudged w keep two p x s y before r) (count : length (ownSentences (w .functions)) ≡ p .sentences) (others : OneColumn p one two (witnesses p + s)) where
+    kept-witness : (t : ℕ) (u : Sentence) → getElem? (ownSentences (w .functions)) t ≡ some u → (t ≡ s → ⊥) → getD two (witnesses p + t) 0 ≡ getD one (witnesses p + t) 0
+    kept-witness t u q d = others .others (witnesses p + t) (omega (arith, element-below (ownSentences (w .functions)) t u q, count)) (λ e. d (omega (arith, e)))
 
     pub witnessed-next : Witnessed keep w one p → Witnessed keep w two p
     witnessed-next h = record { witness = λ g z t u q. by g z t u q (eqb t s) refl }
       where
         by : (g : ℕ) (z : Function) (t : ℕ) (u : Sentence) → Owns w g z t u → (v : Bool) → eqb t s ≡ v → WitnessOf keep (z .name) (u .pattern) (sitesOf w) (getD two (witnesses p + t) 0)
-        by g z t u q false e = subst (λ (n : ℕ). WitnessOf keep (z .name) (u .pattern) (sitesOf w) n) (sym (kept-witness t (eqb-false t s e))) (h .witness g z t u q)
+        by g z t u q false e = subst (λ (n : ℕ). WitnessOf keep (z .name) (u .pattern) (sitesOf w) n) (sym (kept-witness t u (q .sentence) (eqb-false t s e))) (h .witness g z t u q)
         by g z t u q true e =
             let k : t ≡ s = eqb-true t s e in
             let q₂ : Owns w g z s u = subst (λ (n : ℕ). Owns w g z n u) k q in
@@ -126,7 +121,7 @@ module _ (w : Program) (keep : ℕ → Bool) (p : Plan) (f : ℕ) (x : Function)
         spent-by : (t : ℕ) (u : Sentence) → Owns w f x t u → t < s + 1 → keep t ≡ true → (v : Bool) → ltb t s ≡ v → isSpent two p t ≡ not (isMetBy w keep x u)
         spent-by t u q l k true e =
             let i : t < s = ltb-true t s e in
-            ap (λ (n : ℕ). eqb n (suc (p .sites))) (kept-witness t (λ z. omega (arith, z, i))) ∙ h .spent t u q i k
+            ap (λ (n : ℕ). eqb n (suc (p .sites))) (kept-witness t u (q .sentence) (λ z. omega (arith, z, i))) ∙ h .spent t u q i k
         spent-by t u q l k false e =
             let i : t ≡ s = omega (arith, l, ltb-false t s e) in
             ap (isSpent two p) i ∙ j .spent (sym (ap keep i) ∙ k) ∙ ap (λ (v : Sentence). not (isMetBy w keep x v)) (sym (same-sentence t u q i))
@@ -156,15 +151,15 @@ module _ (b old : List ℕ) (p : Plan) (f first end round : ℕ) where
   pub end-within : {w : Program} → Indexed b w old p → end ≡ sentencesBefore (suc f) (w .functions) → end ≤ p .sentences
   end-within {w} d e = omega (arith, e, before-most (w .functions) (suc f), own-counted (w .functions), d .sentences)
 
-  pub apart-next : {one two : List ℕ} {s : ℕ} → first ≤ s → Apart old one (witnesses p + first) (witnesses p + s) → OneEntry one two (witnesses p + s) → Apart old two (witnesses p + first) (witnesses p + (s + 1))
+  pub apart-next : {one two : List ℕ} {s : ℕ} → first ≤ s → ColumnsApart p old one (witnesses p + first) (witnesses p + s) → OneColumn p one two (witnesses p + s) → ColumnsApart p old two (witnesses p + first) (witnesses p + (s + 1))
   apart-next {one} {two} {s} from h o = record {
     length = o .length ∙ h .length;
-    before = λ k l. o .others k (λ q. omega (arith, q, l, from)) ∙ h .before k l;
-    after = λ k l. o .others k (λ q. l (omega (arith, q))) ∙ h .after k (λ q. l (omega (arith, q)));
+    before = λ k i l. o .others k i (λ q. omega (arith, q, l, from)) ∙ h .before k i l;
+    after = λ k i l. o .others k i (λ q. l (omega (arith, q))) ∙ h .after k i (λ q. l (omega (arith, q)));
   }
 
   module _ {w : Program} {one : List ℕ} (x : Function) (s : ℕ) (d : Indexed b w old p) (is : getElem? (w .functions) f ≡ some x) (begin : first ≡ sentencesBefore f (w .functions)) (stop : end ≡ sentencesBefore (suc f) (w .functions))
-      (apart : Apart old one (witnesses p + first) (witnesses p + s)) (from : first ≤ s) (less : s < end) where
+      (apart : ColumnsApart p old one (witnesses p + first) (witnesses p + s)) (from : first ≤ s) (less : s < end) where
     within : s ≤ p .sentences
     within = omega (arith, less, end-within d stop)
 
@@ -195,8 +190,8 @@ module _ (b old : List ℕ) (p : Plan) (f first end round : ℕ) where
 
     pub judge-steps : (two : List ℕ) (before r : Bool)
         → ((v : Program) (z : Function) (y : Sentence) → Indexed b v one p → Owns v f z s y → WitnessOf (isThere (fellOf p one) round) (z .name) (y .pattern) (sitesOf v) (getD one (witnesses p + s) 0) → SentenceJudged v (isThere (fellOf p one) round) two p z s y before r)
-        → OneEntry one two (witnesses p + s) → Witnessed keep w one p × JudgedUpto w keep one p f x s before → Witnessed keep w two p × JudgedUpto w keep two p f x (s + 1) r
+        → OneColumn p one two (witnesses p + s) → Witnessed keep w one p × JudgedUpto w keep one p f x s before → Witnessed keep w two p × JudgedUpto w keep two p f x (s + 1) r
     judge-steps two before r judged o h =
         let j : SentenceJudged w keep two p x s (own .element) before r
         = subst (λ (k : ℕ → Bool). SentenceJudged w k two p x s (own .element) before r) same-keep (judged w x (own .element) indexed-now owns (witness-now (h .0))) in
-        (witnessed-next w keep p f x one two s (own .element) owns before r j o (h .0), judged-next w keep p f x one two s (own .element) owns before r j o (h .1))
+        (witnessed-next w keep p f x one two s (own .element) owns before r j (d .sentences) o (h .0), judged-next w keep p f x one two s (own .element) owns before r j (d .sentences) o (h .1))

@@ -30,3 +30,4 @@ pub mod ListedProgram
 pub mod Classes
 pub mod LinkedLists
 pub mod SomeKept
+pub mod Room

@@ -39,6 +39,14 @@ use Rattle.cleaning.proofs.Walking.{and-left, and-none, Going, going-en
 abbrev pub pattern-part : (b : List ℕ) (n : ℕ) → TermsAt Mode.pattern (drop n b) → TermsAt Mode.pattern (part b n)
 pattern-part b n t = record { terms = t .terms; rest = t .rest; is = part-rest b n ∙ t .is; valid = t .valid }
 
+-- And back.
+abbrev pub from-part : (b : List ℕ) (n : ℕ) → TermsAt Mode.pattern (part b n) → TermsAt Mode.pattern (drop n b)
+from-part b n t = record { terms = t .terms; rest = t .rest; is = sym (part-rest b n) ∙ t .is; valid = t .valid }
+
+pub verdict-is : (t u : Terms) (q : search.Found) → q ≡ sequence start t u → q .verdict ≡ patternsOverlap t u
+unfolding patternsOverlap
+verdict-is t u q e = ap (λ (v : search.Found). v .verdict) e
+
 pub pattern-within : (b : List ℕ) (n : ℕ) → TermsAt Mode.pattern (drop n b) → n ≤ length b
 pattern-within b n t = omega (arith, terms-room t, length-drop n b)
 
@@ -68,9 +76,9 @@ met-same : (t : Terms) (z y : Held) → sameConfiguration (z .site .argument) (y
 unfolding isMet
 met-same t z y e = ap (λ (v : Verdict). not (isDisjoint v)) (same-verdict t (z .site .argument) (y .site .argument) e)
 
-pub met-by : (t : Terms) (y : Held) (q : search.Found) → q ≡ sequence start t (y .site .argument) → (r : Bool) → r ≡ steps.isDisjoint (q .verdict) → isMet t y ≡ not r
-unfolding isMet patternsOverlap
-met-by t y q e r h = ap not (sym (h ∙ disjoint-same (q .verdict) ∙ ap (λ (v : search.Found). isDisjoint (v .verdict)) e))
+pub met-by : (t : Terms) (y : Held) (v : Verdict) → v ≡ patternsOverlap t (y .site .argument) → (r : Bool) → r ≡ steps.isDisjoint v → isMet t y ≡ not r
+unfolding isMet
+met-by t y v e r h = ap not (sym (h ∙ disjoint-same v ∙ ap isDisjoint e))
 
 module _ {b : List ℕ} {w : Program} {m : List ℕ} {p : Plan} (d : Indexed b w m p) (f : ℕ) (x : Function) (e : getElem? (w .functions) f ≡ some x) where
   -- The list of x as index's laws read it.

@@ -13,29 +13,31 @@ use Rattle.image.specs.Parts.{Sentence}
 use Rattle.restrictions.proofs.Numbered.{own-counted}
 use Rattle.index.specs.declared.Plan.{Plan}
 use Rattle.index.specs.Layout.{lines, witnesses}
-use Rattle.index.specs.Tables.{sentencesBefore, Apart}
+use Rattle.index.specs.Tables.{sentencesBefore}
 use Rattle.cleaning.specs.Root.{rootPlace}
 use Rattle.cleaning.specs.Asked.{isJudged}
 use Rattle.cleaning.specs.History.{isThere, someNumber}
 use Rattle.cleaning.specs.Indexed.{sitesOf, Indexed, fellOf, OnlyRounds}
-use Rattle.cleaning.specs.Walks.{Owns, WitnessOf, Witnessed}
+use Rattle.cleaning.specs.Room.{Remembering}
+use Rattle.cleaning.specs.Walks.{Owns, ColumnsApart, WitnessOf, Witnessed}
 use Rattle.cleaning.specs.RoundDone.{rejectsIn, someIn, RoundSoFar, isSpent, JudgedUpto, fallsNow, OneFell, Changed, SentencesDropped, RoundReady, RoundAt, RoundMade}
 use Rattle.cleaning.proofs.Indexed.{only-rounds-indexed, witness-later}
 use Rattle.cleaning.proofs.Judging.{none-first, none-second, witnesses-only, witnesses-fell}
 use Rattle.cleaning.proofs.Owned.{before-later, before-most}
+use Rattle.cleaning.proofs.Room.{remembering-kept}
 use Rattle.cleaning.proofs.RoundDone.{there-old, round-same, round-below, round-told}
 use Rattle.cleaning.proofs.RoundSteps.{some-in, none-in, rejects-root, rejects-passed, rejects-judged, some-none, some-one, so-far-next, skipped, changed-falls}
 
 -- ---- entries that only rounds change
 
 pub only-same : (p : Plan) (m : List ℕ) → OnlyRounds p m m
-only-same p m = record { length = refl; before = λ k l. refl; after = λ k l. refl; place = λ s l. refl }
+only-same p m = record { length = refl; before = λ k l. refl; after = λ k l i. refl; place = λ s l. refl }
 
 pub only-on : {p : Plan} {old one two : List ℕ} → OnlyRounds p old one → OnlyRounds p one two → OnlyRounds p old two
 only-on a b = record {
   length = b .length ∙ a .length;
   before = λ k l. b .before k l ∙ a .before k l;
-  after = λ k l. b .after k l ∙ a .after k l;
+  after = λ k l i. b .after k l i ∙ a .after k l i;
   place = λ s l. b .place s l ∙ a .place s l;
 }
 
@@ -56,7 +58,7 @@ module _ {p : Plan} {one two : List ℕ} {first end r : ℕ} {before dropped : B
   dropped-only = record {
     length = h .others .length;
     before = λ k l. h .others .before k (omega (arith, l));
-    after = λ k l. h .others .after k (λ e. omega (arith, e, l, within));
+    after = λ k l i. h .others .after k (λ e. omega (arith, e, l, within));
     place = λ s l. by s (ltb s first) refl (ltb s end) refl;
   }
     where
@@ -64,6 +66,9 @@ module _ {p : Plan} {one two : List ℕ} {first end r : ℕ} {before dropped : B
       by s true e u g = ap (λ (n : ℕ). n % 32768) (dropped-before s (ltb-true s first e))
       by s false e true g = h .place s (ltb-false s first e) (ltb-true s end g)
       by s false e false g = ap (λ (n : ℕ). n % 32768) (dropped-after s (ltb-false s end g))
+
+  pub dropped-remembers : (b : List ℕ) → Remembering b p one → Remembering b p two
+  dropped-remembers b = remembering-kept b p one two (h .others .length) (λ k l. h .others .after k (λ e. omega (arith, e, l, within)))
 
   dropped-witnessed : (keep : ℕ → Bool) (w : Program) → Witnessed keep w one p → Witnessed keep w two p
   dropped-witnessed keep w a = record {
@@ -130,7 +135,7 @@ module _ {b : List ℕ} {w : Program} {old now : List ℕ} {p : Plan} {root r f 
   end-at = omega (arith, before-most (w .functions) (suc f), own-counted (w .functions), ready .indexed .sentences)
 
   -- Judging writes witnesses only.
-  judged-at : (one : List ℕ) (first end : ℕ) → end ≤ p .sentences → Apart now one (witnesses p + first) (witnesses p + end) → Witnessed (isThere (fellOf p now) r) w one p → RoundAt b w old one p r f before
+  judged-at : (one : List ℕ) (first end : ℕ) → end ≤ p .sentences → ColumnsApart p now one (witnesses p + first) (witnesses p + end) → Witnessed (isThere (fellOf p now) r) w one p → RoundAt b w old one p r f before
   judged-at one first end within h a =
       let e : fellOf p now ≡ fellOf p one = sym (witnesses-fell p now one first end within h) in
       record {
@@ -184,7 +189,7 @@ module _ {b : List ℕ} {w : Program} {old now : List ℕ} {p : Plan} {root r f 
 -- The same of a function that has just been judged.
 module _ {b : List ℕ} {w : Program} {old now : List ℕ} {p : Plan} {root r f : ℕ} {before : Bool} (ready : RoundReady b w old p root r) (at : RoundAt b w old now p r f before) (x : Function) (is : getElem? (w .functions) f ≡ some x)
     (other : f ≡ root → ⊥) (judged : isJudged (isThere (fellOf p now) r) (x .name) (sitesOf w) ≡ true) {one : List ℕ} {first end : ℕ} {met : Bool}
-    (begin : first ≡ sentencesBefore f (w .functions)) (stop : end ≡ sentencesBefore (suc f) (w .functions)) (apart : Apart now one (witnesses p + first) (witnesses p + end))
+    (begin : first ≡ sentencesBefore f (w .functions)) (stop : end ≡ sentencesBefore (suc f) (w .functions)) (apart : ColumnsApart p now one (witnesses p + first) (witnesses p + end))
     (j : Witnessed (isThere (fellOf p now) r) w one p × JudgedUpto w (isThere (fellOf p now) r) one p f x end met) where
   at-one : RoundAt b w old one p r f before
   at-one = judged-at ready at one first end (omega (arith, stop, end-at ready at)) apart (j .0)

@@ -47,9 +47,9 @@ pub record SomeBody (m : List ℕ) (p : Plan) : Type 0 where
 unfoldable pub fellOf : Plan → List ℕ → ℕ → ℕ
 fellOf p m s = cond (ltb s (p .sentences)) (getD m (lines p + s) 0 / 32768 % 4096) 0
 
--- Only rounds and witnesses have been written: places of sentences, and all else, are as they were.
+-- Only rounds and witnesses have been written, and the room: places of sentences, and all other columns, are as they were.
 pub record OnlyRounds (p : Plan) (old new : List ℕ) : Type 0 where
   pub length : length new ≡ length old
   pub before : (k : ℕ) → k < lines p → getD new k 0 ≡ getD old k 0
-  pub after : (k : ℕ) → marks p ≤ k → getD new k 0 ≡ getD old k 0
+  pub after : (k : ℕ) → marks p ≤ k → k < room p → getD new k 0 ≡ getD old k 0
   pub place : (s : ℕ) → s < p .sentences → getD new (lines p + s) 0 % 32768 ≡ getD old (lines p + s) 0 % 32768

@@ -11,3 +11,4 @@ pub mod Walks
 pub mod RoundDone
 pub mod ToldReport
 pub mod Prepared
+pub mod Room

@@ -117,3 +117,13 @@ pub record StillMet (keep : ℕ → Bool) (f : Name) (p : Terms) (sites : List H
 pub record OneEntry (old new : List ℕ) (at : ℕ) : Type 0 where
   pub length : length new ≡ length old
   pub others : (k : ℕ) → (k ≡ at → ⊥) → getD new k 0 ≡ getD old k 0
+
+-- The same of the columns alone, and of all columns but those from `from` up to `end`.
+pub record OneColumn (p : Plan) (old new : List ℕ) (at : ℕ) : Type 0 where
+  pub length : length new ≡ length old
+  pub others : (k : ℕ) → k < room p → (k ≡ at → ⊥) → getD new k 0 ≡ getD old k 0
+
+pub record ColumnsApart (p : Plan) (old new : List ℕ) (from end : ℕ) : Type 0 where
+  pub length : length new ≡ length old
+  pub before : (k : ℕ) → k < room p → k < from → getD new k 0 ≡ getD old k 0
+  pub after : (k : ℕ) → k < room p → (k < end → ⊥) → getD new k 0 ≡ getD old k 0

@@ -2,4 +2,5 @@
 pub mod prepare;
 pub mod root;
 pub mod rounds;
+pub mod verdict;
 pub mod walks;

@@ -12,10 +12,11 @@ ghost use lib.ListN.{length, getD, getElem?};
 ghost use Rattle.image.specs.Syntax.{Function, Program};
 ghost use Rattle.image.specs.Parts.{Sentence};
 ghost use Rattle.index.specs.Layout.{witnesses, marks};
-ghost use Rattle.index.specs.Tables.{sentencesBefore, Apart};
+ghost use Rattle.index.specs.Tables.{sentencesBefore};
 ghost use Rattle.cleaning.specs.History.{isThere};
 ghost use Rattle.cleaning.specs.Indexed.{sitesOf, Indexed, SomeBody, fellOf};
-ghost use Rattle.cleaning.specs.Walks.{Owns, OneEntry, WitnessOf, Witnessed, SomeOwned};
+ghost use Rattle.cleaning.specs.Room.{Remembering};
+ghost use Rattle.cleaning.specs.Walks.{Owns, OneColumn, ColumnsApart, WitnessOf, Witnessed, SomeOwned};
 ghost use Rattle.cleaning.specs.RoundDone.{JudgedUpto, SentenceJudged, SentenceDropped, SentencesDropped, SomeFunction, RoundReady, SomeRoundReady, RoundAt, SomeRoundAt, RoundMade, RoundsReady, SomeRoundsReady, RoundsMade};
 
 // The number of the f-th function's first sentence; the count of all sentences, past the last function.
@@ -39,9 +40,10 @@ fn judge_sentence(
     round: usize,
     before: bool,
 ) -> bool
-    requires { ⌜ SomeOwned (now b) (now work) plan (isThere (fellOf plan (now work)) round) f s ⌝ }
+    requires { ⌜ SomeOwned (now b) (now work) plan (isThere (fellOf plan (now work)) round) f s × (length (now b) ≤ 32768) × Remembering (now b) plan (now work) ⌝ }
     ensures judged { λ r. ⌜ ((w : Program) (x : Function) (y : Sentence) → Indexed (now (b .entry)) w (now (work .entry)) plan → Owns w f x s y → WitnessOf (isThere (fellOf plan (now (work .entry))) round) (x .name) (y .pattern) (sitesOf w) (getD (now (work .entry)) (witnesses plan + s) 0) → SentenceJudged w (isThere (fellOf plan (now (work .entry))) round) (now (work .exit)) plan x s y before r) ⌝ }
-    ensures others { λ r. ⌜ OneEntry (now (work .entry)) (now (work .exit)) (witnesses plan + s) ⌝ }
+    ensures others { λ r. ⌜ OneColumn plan (now (work .entry)) (now (work .exit)) (witnesses plan + s) ⌝ }
+    ensures remembers { λ _. ⌜ Remembering (now (b .entry)) plan (now (work .exit)) ⌝ }
 {
     if is_there(work, plan, s, round) {
         if still_met(b, work, plan, f, s, round) {
@@ -61,9 +63,10 @@ fn judge(
     end: usize,
     round: usize,
 ) -> bool
-    requires { ⌜ SomeFunction (now b) (now work) plan f first end round ⌝ }
+    requires { ⌜ SomeFunction (now b) (now work) plan f first end round × (length (now b) ≤ 32768) × Remembering (now b) plan (now work) ⌝ }
     ensures judged { λ r. ⌜ ((w : Program) (x : Function) → Indexed (now (b .entry)) w (now (work .entry)) plan → getElem? (w .functions) f ≡ some x → Witnessed (isThere (fellOf plan (now (work .entry))) round) w (now (work .entry)) plan → first ≡ sentencesBefore f (w .functions) → end ≡ sentencesBefore (suc f) (w .functions) → Witnessed (isThere (fellOf plan (now (work .entry))) round) w (now (work .exit)) plan × JudgedUpto w (isThere (fellOf plan (now (work .entry))) round) (now (work .exit)) plan f x end r) ⌝ }
-    ensures others { λ _. ⌜ Apart (now (work .entry)) (now (work .exit)) (witnesses plan + first) (witnesses plan + end) ⌝ }
+    ensures others { λ _. ⌜ ColumnsApart plan (now (work .entry)) (now (work .exit)) (witnesses plan + first) (witnesses plan + end) ⌝ }
+    ensures remembers { λ _. ⌜ Remembering (now (b .entry)) plan (now (work .exit)) ⌝ }
 {
     let mut s = first;
     let mut met = false;
@@ -122,8 +125,9 @@ fn clean_function(
     round: usize,
     before: bool,
 ) -> bool
-    requires { ⌜ SomeRoundAt (now b) (now work) plan root round f before × (f < plan .functions) ⌝ }
-    ensures { λ r. ⌜ ((w : Program) (old : List ℕ) → RoundReady (now (b .entry)) w old plan root round → RoundAt (now (b .entry)) w old (now (work .entry)) plan round f before → RoundAt (now (b .entry)) w old (now (work .exit)) plan round (suc f) r) ⌝ }
+    requires { ⌜ SomeRoundAt (now b) (now work) plan root round f before × (f < plan .functions) × (length (now b) ≤ 32768) × Remembering (now b) plan (now work) ⌝ }
+    ensures done { λ r. ⌜ ((w : Program) (old : List ℕ) → RoundReady (now (b .entry)) w old plan root round → RoundAt (now (b .entry)) w old (now (work .entry)) plan round f before → RoundAt (now (b .entry)) w old (now (work .exit)) plan round (suc f) r) ⌝ }
+    ensures remembers { λ _. ⌜ Remembering (now (b .entry)) plan (now (work .exit)) ⌝ }
 {
     if f == root {
         return before;
@@ -141,8 +145,9 @@ fn clean_function(
 
 // One round over the functions; whether anything fell.
 fn clean_once(b: &[u8], work: &mut [u32], plan: Plan, root: usize, round: usize) -> bool
-    requires { ⌜ SomeRoundReady (now b) (now work) plan root round ⌝ }
-    ensures { λ r. ⌜ ((w : Program) → RoundReady (now (b .entry)) w (now (work .entry)) plan root round → RoundMade (now (b .entry)) w (now (work .entry)) (now (work .exit)) plan round r) ⌝ }
+    requires { ⌜ SomeRoundReady (now b) (now work) plan root round × (length (now b) ≤ 32768) × Remembering (now b) plan (now work) ⌝ }
+    ensures made { λ r. ⌜ ((w : Program) → RoundReady (now (b .entry)) w (now (work .entry)) plan root round → RoundMade (now (b .entry)) w (now (work .entry)) (now (work .exit)) plan round r) ⌝ }
+    ensures remembers { λ _. ⌜ Remembering (now (b .entry)) plan (now (work .exit)) ⌝ }
 {
     let mut f = 0;
     let mut changed = false;
@@ -155,8 +160,9 @@ fn clean_once(b: &[u8], work: &mut [u32], plan: Plan, root: usize, round: usize)
 
 // All rounds; how many. They end with the first that drops nothing, which is counted.
 pub fn clean_residual_program(b: &[u8], work: &mut [u32], plan: Plan, root: usize) -> usize
-    requires { ⌜ SomeRoundsReady (now b) (now work) plan root ⌝ }
-    ensures { λ r. ⌜ ((w : Program) → RoundsReady (now (b .entry)) w (now (work .entry)) plan root → RoundsMade w (now (work .entry)) (now (work .exit)) plan r) ⌝ }
+    requires { ⌜ SomeRoundsReady (now b) (now work) plan root × (length (now b) ≤ 32768) × Remembering (now b) plan (now work) ⌝ }
+    ensures made { λ r. ⌜ ((w : Program) → RoundsReady (now (b .entry)) w (now (work .entry)) plan root → RoundsMade w (now (work .entry)) (now (work .exit)) plan r) ⌝ }
+    ensures remembers { λ _. ⌜ Remembering (now (b .entry)) plan (now (work .exit)) ⌝ }
 {
     let mut round = 1;
     while clean_once(b, work, plan, root, round) {

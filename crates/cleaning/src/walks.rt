@@ -1,13 +1,12 @@
 // Walks along a function's list of sites: which of them are there, and which a sentence meets.
+use crate::verdict::verdict_at;
 use index::Plan;
-use index::classes::site_argument;
 use index::table::class_of;
 use index::table::head_site;
 use index::table::next_site;
 use index::table::place_of;
 use index::table::sentence_of;
 use overlap::is_disjoint;
-use overlap::patterns_overlap;
 ghost use mathlib.Core.Path.{_≡_};
 ghost use mathlib.Core.Bool.{Bool, true};
 ghost use mathlib.Core.List.{List};
@@ -26,7 +25,8 @@ ghost use Rattle.index.specs.Links.{listHead};
 ghost use Rattle.cleaning.specs.Asked.{meets, isJudged};
 ghost use Rattle.cleaning.specs.History.{isThere};
 ghost use Rattle.cleaning.specs.Indexed.{sitesOf, Indexed, SomeBody, fellOf};
-ghost use Rattle.cleaning.specs.Walks.{Walkable, SomeWalk, isThereListed, OnList, NoneMet, MetAt, SomeAsked, SomeMeeting, Owns, WitnessOf, SomeOwned, witnessFrom, StillMet, OneEntry};
+ghost use Rattle.cleaning.specs.Room.{Remembering, Used};
+ghost use Rattle.cleaning.specs.Walks.{Walkable, SomeWalk, isThereListed, OnList, NoneMet, MetAt, SomeAsked, SomeMeeting, Owns, WitnessOf, SomeOwned, witnessFrom, StillMet, OneColumn};
 
 // The round in which the sentence s fell, 0 if it never did.
 pub fn fell(work: &[u32], plan: Plan, s: usize) -> usize
@@ -97,31 +97,35 @@ pub fn is_judged(work: &[u32], plan: Plan, f: usize, round: usize) -> bool
 
 // Whether the site i meets the pattern that stands at `pattern` of the body b: it is there and the two are not Disjoint. A
 // repeat of an earlier site that is there need not be asked, as the verdict is the same.
-fn is_met(b: &[u8], work: &[u32], plan: Plan, pattern: usize, i: usize, round: usize) -> bool
-    requires { ⌜ SomeAsked (now b) (now work) plan pattern i ⌝ }
-    ensures { λ r. ⌜ ((w : Program) (f : ℕ) (x : Function) (y : Held) → Indexed (now (b .entry)) w (now (work .entry)) plan → getElem? (w .functions) f ≡ some x → getElem? (sitesOf w) i ≡ some y → isListed true (x .name) y ≡ true → (t : TermsAt Mode.pattern (drop pattern (now (b .entry)))) → MetAt (isThere (fellOf plan (now (work .entry))) round) (x .name) (t .terms) (sitesOf w) i y r) ⌝ }
+fn is_met(b: &[u8], work: &mut [u32], plan: Plan, pattern: usize, i: usize, round: usize) -> bool
+    requires { ⌜ SomeAsked (now b) (now work) plan pattern i × (length (now b) ≤ 32768) × Remembering (now b) plan (now work) ⌝ }
+    ensures met { λ r. ⌜ ((w : Program) (f : ℕ) (x : Function) (y : Held) → Indexed (now (b .entry)) w (now (work .entry)) plan → getElem? (w .functions) f ≡ some x → getElem? (sitesOf w) i ≡ some y → isListed true (x .name) y ≡ true → (t : TermsAt Mode.pattern (drop pattern (now (b .entry)))) → MetAt (isThere (fellOf plan (now (work .entry))) round) (x .name) (t .terms) (sitesOf w) i y r) ⌝ }
+    ensures keeps { λ _. ⌜ Used (now (b .entry)) plan (now (work .entry)) (now (work .exit)) ⌝ }
 {
     if !site_there(work, plan, i, round) {
         return false;
     }
-    let calls = calls_of(plan);
-    let c = class_of(work, calls + plan.sites, i);
+    let c = class_of(work, calls_of(plan) + plan.sites, i);
     if c < i {
         if site_there(work, plan, c, round) {
             return false;
         }
     }
-    let k = calls + i;
-    let q = site_argument(b, work[k]);
-    let found = patterns_overlap(&b[pattern..], &b[q..]);
-    let verdict = found.verdict;
-    !is_disjoint(verdict)
+    !is_disjoint(verdict_at(b, work, plan, pattern, i))
 }
 
 // From the place i on, the first site of its list that meets the pattern; the number of sites, if there is none.
-fn meeting_from(b: &[u8], work: &[u32], plan: Plan, pattern: usize, i: usize, round: usize) -> usize
-    requires { ⌜ SomeMeeting (now b) (now work) plan pattern i ⌝ }
-    ensures { λ r. ⌜ ((w : Program) (f : ℕ) (x : Function) → Indexed (now (b .entry)) w (now (work .entry)) plan → getElem? (w .functions) f ≡ some x → OnList (x .name) (sitesOf w) i → (t : TermsAt Mode.pattern (drop pattern (now (b .entry)))) → NoneMet (isThere (fellOf plan (now (work .entry))) round) (x .name) (t .terms) (sitesOf w) i → First (meets (isThere (fellOf plan (now (work .entry))) round) (x .name) (t .terms)) 0 (sitesOf w) r) ⌝ }
+fn meeting_from(
+    b: &[u8],
+    work: &mut [u32],
+    plan: Plan,
+    pattern: usize,
+    i: usize,
+    round: usize,
+) -> usize
+    requires { ⌜ SomeMeeting (now b) (now work) plan pattern i × (length (now b) ≤ 32768) × Remembering (now b) plan (now work) ⌝ }
+    ensures met { λ r. ⌜ ((w : Program) (f : ℕ) (x : Function) → Indexed (now (b .entry)) w (now (work .entry)) plan → getElem? (w .functions) f ≡ some x → OnList (x .name) (sitesOf w) i → (t : TermsAt Mode.pattern (drop pattern (now (b .entry)))) → NoneMet (isThere (fellOf plan (now (work .entry))) round) (x .name) (t .terms) (sitesOf w) i → First (meets (isThere (fellOf plan (now (work .entry))) round) (x .name) (t .terms)) 0 (sitesOf w) r) ⌝ }
+    ensures keeps { λ _. ⌜ Used (now (b .entry)) plan (now (work .entry)) (now (work .exit)) ⌝ }
 {
     let links = calls_of(plan) + plan.sites;
     let mut j = i;
@@ -150,9 +154,10 @@ fn witness_of(work: &[u32], plan: Plan, f: usize, s: usize) -> usize
 // Whether the sentence s of the f-th function meets a site when the round begins. Its witness only moves on, as sites
 // only go: so no verdict is asked twice.
 pub fn still_met(b: &[u8], work: &mut [u32], plan: Plan, f: usize, s: usize, round: usize) -> bool
-    requires { ⌜ SomeOwned (now b) (now work) plan (isThere (fellOf plan (now work)) round) f s ⌝ }
+    requires { ⌜ SomeOwned (now b) (now work) plan (isThere (fellOf plan (now work)) round) f s × (length (now b) ≤ 32768) × Remembering (now b) plan (now work) ⌝ }
     ensures met { λ r. ⌜ ((w : Program) (x : Function) (y : Sentence) → Indexed (now (b .entry)) w (now (work .entry)) plan → Owns w f x s y → WitnessOf (isThere (fellOf plan (now (work .entry))) round) (x .name) (y .pattern) (sitesOf w) (getD (now (work .entry)) (witnesses plan + s) 0) → StillMet (isThere (fellOf plan (now (work .entry))) round) (x .name) (y .pattern) (sitesOf w) (getD (now (work .exit)) (witnesses plan + s) 0) r) ⌝ }
-    ensures others { λ r. ⌜ OneEntry (now (work .entry)) (now (work .exit)) (witnesses plan + s) ⌝ }
+    ensures others { λ r. ⌜ OneColumn plan (now (work .entry)) (now (work .exit)) (witnesses plan + s) ⌝ }
+    ensures remembers { λ _. ⌜ Remembering (now (b .entry)) plan (now (work .exit)) ⌝ }
 {
     let k = 2 * plan.functions + plan.sentences + s;
     let i = witness_of(work, plan, f, s);

@@ -12,3 +12,4 @@ pub mod FallenList
 pub mod Repeating
 pub mod RemovedLines
 pub mod Whole
+pub mod RoomUsed

@@ -10,8 +10,7 @@ use lib.ListN.{length, getD, getElem?}
 use Rattle.image.specs.Syntax.{Name, Terms, Function, Program}
 use Rattle.overlap.specs.declared.Verdict.{Verdict}
 use Rattle.overlap.specs.declared.Verdict.the-variants.{Disjoint, Overlap, Unknown}
-use Rattle.overlap.specs.declared.Found as search
-use Rattle.overlap.specs.Search.{patternsOverlap, sequence, start}
+use Rattle.overlap.specs.Search.{patternsOverlap}
 use Rattle.overlap.specs.Steps as steps
 use Rattle.restrictions.specs.Lists.{any}
 use Rattle.restrictions.specs.Entries.{Held, entrySentence}
@@ -28,10 +27,6 @@ use Rattle.cleaning.specs.Indexed.{sitesOf, Indexed}
 use Rattle.cleaning.specs.ToldReport.{overlaps}
 use Rattle.cleaning.proofs.Meeting.{number-is, site-element}
 use Rattle.cleaning.proofs.Walking.{and-left, and-none, Going, going-end, going-found, going-next}
-
-pub verdict-is : (t u : Terms) (q : search.Found) → q ≡ sequence start t u → q .verdict ≡ patternsOverlap t u
-unfolding patternsOverlap
-verdict-is t u q e = ap (λ (v : search.Found). v .verdict) e
 
 pub overlap-same : (v : Verdict) → steps.isOverlap v ≡ isOverlap v
 unfolding isOverlap

@@ -20,7 +20,7 @@ use Rattle.cleaning.specs.Indexed.{sitesOf}
 use Rattle.cleaning.specs.ToldReport.{fallenFrom, sameFallen, removedOf, undecidedTold, uncoveredTold, runsAfter, openedNames, toldReport}
 use Rattle.report.specs.Fill.{Emitted}
 use Rattle.report.specs.Report.{removedLine, undecidedLine, uncoveredLine, uncharacterisedLine, dispatchLine, perfection, graphLine, lastLines, formatCleanReport}
-use Rattle.report.proofs.Fill.{emitted-append, emitted-same}
+use Rattle.report.proofs.Fill.{filled-empty, emitted-append, emitted-same, emitted-length}
 use Rattle.lines.specs.declared.format.Figures.{Figures}
 use Rattle.lines.specs.Format.{countLine, topText, listsText}
 use Rattle.lines.specs.Figures.{FiguresOf}
@@ -80,12 +80,16 @@ module _ (w : Program) (fell : ℕ → ℕ) (n : ℕ) where
   unfolding toldReport
   removed-is = refl
 
-  pub figures-told : (g : Figures) → g .after ≡ toldReport w fell n .sentencesAfter → g .removed ≡ length (firsts sameFallen (fallenFrom w fell 1 n)) → g .undecided ≡ length undecidedNow → g .uncovered ≡ length uncoveredNow → FiguresOf (toldReport w fell n) g
-  figures-told g a b c d = record {
+  pub figures-told : (g : Figures) → g .after ≡ toldReport w fell n .sentencesAfter → g .removed ≡ length (firsts sameFallen (fallenFrom w fell 1 n)) → g .undecided ≡ length undecidedNow → g .uncovered ≡ length uncoveredNow
+      → g .«removed_length» ≡ length (flatMap removedLine removedNow) → g .«undecided_length» ≡ length (flatMap undecidedLine undecidedNow) → g .«uncovered_length» ≡ length (flatMap uncoveredLine uncoveredNow) → FiguresOf (toldReport w fell n) g
+  figures-told g a b c d e h k = record {
     after = a;
     removed = b ∙ (sym (length-map (firsts sameFallen (fallenFrom w fell 1 n)) (removedOf w fell)) ∙ ap length removed-is);
     undecided = c ∙ ap length undecided-is;
     uncovered = d ∙ ap length uncovered-is;
+    removed-length = e ∙ ap (λ (l : List RemovedSentence). length (flatMap removedLine l)) removed-is;
+    undecided-length = h ∙ ap (λ (l : List UndecidedSentence). length (flatMap undecidedLine l)) undecided-is;
+    uncovered-length = k ∙ ap (λ (l : List UncoveredRestriction). length (flatMap uncoveredLine l)) uncovered-is;
   }
 
   pub lists-told : (g : Figures) → FiguresOf (toldReport w fell n) g
@@ -93,6 +97,28 @@ module _ (w : Program) (fell : ℕ → ℕ) (n : ℕ) where
   unfolding listsText
   lists-told g f =
       λ i. flatMap removedLine (removed-is i) ++ (countLine (ascii "undecided: ") (f .undecided i) ++ (flatMap undecidedLine (undecided-is i) ++ (countLine (ascii "uncovered: ") (f .uncovered i) ++ flatMap uncoveredLine (uncovered-is i))))
+
+-- Where nothing can be written, a text's length is all that emission takes of it.
+unwritten : (s : List ℕ) (p n : ℕ) (t : Text) → length s ≡ 0 → n ≡ length t → Emitted s p t (p + n) s
+unwritten [] p n t h e = record { after = ap (λ (k : ℕ). p + k) e; left = sym (filled-empty t p) }
+unwritten (x ∷ s) p n t h e = absurd (omega (arith, h))
+
+-- So the lines between the lists and the lists' lengths make up the lists.
+pub lists-measured : {s t v : List ℕ} {p q e : ℕ} (r : CleanReport) (g : Figures) → FiguresOf r g → length s ≡ 0
+    → Emitted s (p + g .«removed_length») (countLine (ascii "undecided: ") (g .undecided)) q t → Emitted t (q + g .«undecided_length») (countLine (ascii "uncovered: ") (g .uncovered)) e v → Emitted s p (listsText r) (e + g .«uncovered_length») v
+unfolding listsText
+lists-measured {s} {t} {v} {p} {q} {e} r g f none second third =
+    let a = flatMap removedLine (r .removed) in
+    let b = countLine (ascii "undecided: ") (g .undecided) in
+    let c = flatMap undecidedLine (r .undecided) in
+    let d = countLine (ascii "uncovered: ") (g .uncovered) in
+    let z = flatMap uncoveredLine (r .uncovered) in
+    let empty : length t ≡ 0 = emitted-length second ∙ none in
+    emitted-same (λ i. a ++ (countLine (ascii "undecided: ") (f .undecided i) ++ (c ++ (countLine (ascii "uncovered: ") (f .uncovered i) ++ z))))
+    (emitted-append a (b ++ (c ++ (d ++ z))) (unwritten s p (g .«removed_length») a none (f .removed-length))
+    (emitted-append b (c ++ (d ++ z)) second
+    (emitted-append c (d ++ z) (unwritten t q (g .«undecided_length») c empty (f .undecided-length))
+    (emitted-append d z third (unwritten v e (g .«uncovered_length») z (emitted-length third ∙ empty) (f .uncovered-length))))))
 
 -- The report in the four pieces in which it is emitted.
 pub report-whole : (r : CleanReport)

@@ -15,6 +15,7 @@ ghost use Rattle.image.specs.Syntax.{Program};
 ghost use Rattle.image.specs.Encode.{ownSentenceCount};
 ghost use Rattle.cleaning.specs.Root.{rootPlace};
 ghost use Rattle.cleaning.specs.Indexed.{fellOf};
+ghost use Rattle.cleaning.specs.Room.{Remembering, Used};
 ghost use Rattle.cleaning.specs.ToldReport.{toldReport, unchangedReport};
 ghost use Rattle.report.specs.Fill.{Emitted, limit};
 ghost use Rattle.report.specs.Report.{perfection, graphLine, formatCleanReport};
@@ -22,12 +23,15 @@ ghost use Rattle.lines.specs.Removed.{Removing, SomeRemoving};
 ghost use Rattle.lines.specs.Format.{counted, countLine, topText, listsText};
 ghost use Rattle.lines.specs.Figures.{FiguresOf, Few, Reporting, SomeReporting};
 
-// The numbers of a report: sentences left, and the lines of its lists.
+// The numbers of a report: sentences left, the lines of its lists, and the bytes of those.
 pub struct Figures {
     pub after: usize,
     pub removed: usize,
     pub undecided: usize,
     pub uncovered: usize,
+    pub removed_length: usize,
+    pub undecided_length: usize,
+    pub uncovered_length: usize,
 }
 
 // A number after its label.
@@ -99,15 +103,16 @@ pub fn format_unchanged(out: &mut [u8], functions: usize, sentences: usize) -> u
 // The numbers of the report, with so many sentences left after so many rounds; the lists are emitted into no text.
 pub fn count_lists(
     b: &[u8],
-    work: &[u32],
+    work: &mut [u32],
     plan: Plan,
     rounds: usize,
     after: usize,
     none: &mut [u8],
 ) -> Figures
-    requires { ⌜ SomeRemoving (now b) (now work) plan rounds × (rounds < 4096) × (after < 8192) ⌝ }
+    requires { ⌜ SomeRemoving (now b) (now work) plan rounds × (rounds < 4096) × (after < 8192) × Remembering (now b) plan (now work) ⌝ }
     ensures counted { λ r. ⌜ ((w : Program) → Removing (now (b .entry)) w (now (work .entry)) plan rounds → after ≡ toldReport w (fellOf plan (now (work .entry))) rounds .sentencesAfter → FiguresOf (toldReport w (fellOf plan (now (work .entry))) rounds) r × (length (now (none .exit)) ≡ length (now (none .entry)))) ⌝ }
     ensures few { λ r. ⌜ Few r ⌝ }
+    ensures keeps { λ _. ⌜ Used (now (b .entry)) plan (now (work .entry)) (now (work .exit)) ⌝ }
 {
     let removed = put_removed(b, work, plan, rounds, none, 0);
     let undecided = put_undecided(b, work, plan, rounds + 1, none, 0);
@@ -117,22 +122,26 @@ pub fn count_lists(
         removed: removed.count,
         undecided: undecided.count,
         uncovered: uncovered.count,
+        removed_length: removed.at,
+        undecided_length: undecided.at,
+        uncovered_length: uncovered.at,
     }
 }
 
 // The lists and the lines between them, from the place `at` on.
 fn put_lists(
     b: &[u8],
-    work: &[u32],
+    work: &mut [u32],
     plan: Plan,
     rounds: usize,
     figures: Figures,
     out: &mut [u8],
     at: usize,
 ) -> usize
-    requires { ⌜ SomeReporting (now b) (now work) plan rounds figures × (rounds < 4096) × (at ≤ 1000) ⌝ }
+    requires { ⌜ SomeReporting (now b) (now work) plan rounds figures × (rounds < 4096) × (at ≤ 1000) × Remembering (now b) plan (now work) ⌝ }
     ensures written { λ r. ⌜ ((w : Program) → Reporting (now (b .entry)) w (now (work .entry)) plan rounds figures → Emitted (now (out .entry)) at (listsText (toldReport w (fellOf plan (now (work .entry))) rounds)) r (now (out .exit))) ⌝ }
     ensures short { λ r. ⌜ r ≤ 1000000000000000000 ⌝ }
+    ensures keeps { λ _. ⌜ Used (now (b .entry)) plan (now (work .entry)) (now (work .exit)) ⌝ }
 {
     let removed = put_removed(b, work, plan, rounds, out, at);
     let second = put_count_line(out, removed.at, b"undecided: ", figures.undecided);
@@ -145,15 +154,16 @@ fn put_lists(
 // The report of a program that was cleaned in so many rounds.
 pub fn format_clean_report(
     b: &[u8],
-    work: &[u32],
+    work: &mut [u32],
     plan: Plan,
     root: usize,
     rounds: usize,
     figures: Figures,
     out: &mut [u8],
 ) -> usize
-    requires { ⌜ SomeReporting (now b) (now work) plan rounds figures × (rounds < 4096) ⌝ }
-    ensures { λ r. ⌜ ((w : Program) → Reporting (now (b .entry)) w (now (work .entry)) plan rounds figures → root ≡ rootPlace w → Emitted (now (out .entry)) 0 (formatCleanReport (toldReport w (fellOf plan (now (work .entry))) rounds)) r (now (out .exit))) ⌝ }
+    requires { ⌜ SomeReporting (now b) (now work) plan rounds figures × (rounds < 4096) × Remembering (now b) plan (now work) ⌝ }
+    ensures written { λ r. ⌜ ((w : Program) → Reporting (now (b .entry)) w (now (work .entry)) plan rounds figures → root ≡ rootPlace w → Emitted (now (out .entry)) 0 (formatCleanReport (toldReport w (fellOf plan (now (work .entry))) rounds)) r (now (out .exit))) ⌝ }
+    ensures keeps { λ _. ⌜ Used (now (b .entry)) plan (now (work .entry)) (now (work .exit)) ⌝ }
 {
     let first = put_top(
         out,
@@ -167,4 +177,35 @@ pub fn format_clean_report(
     let second = put_lists(b, work, plan, rounds, figures, out, first);
     let third = put_uncharacterised(b, work, plan, root, out, second);
     put_graph(out, third, figures.undecided, figures.uncovered)
+}
+
+// Where the same report ends, emitted into no text: the lists' lengths stand for the lists.
+pub fn measure_clean_report(
+    b: &[u8],
+    work: &[u32],
+    plan: Plan,
+    root: usize,
+    rounds: usize,
+    figures: Figures,
+    none: &mut [u8],
+) -> usize
+    requires { ⌜ SomeReporting (now b) (now work) plan rounds figures × (rounds < 4096) × (length (now none) ≡ 0) ⌝ }
+    ensures { λ r. ⌜ ((w : Program) → Reporting (now (b .entry)) w (now (work .entry)) plan rounds figures → root ≡ rootPlace w → Emitted (now (none .entry)) 0 (formatCleanReport (toldReport w (fellOf plan (now (work .entry))) rounds)) r (now (none .exit))) ⌝ }
+{
+    let first = put_top(
+        none,
+        0,
+        plan.functions,
+        plan.sentences,
+        figures.after,
+        rounds,
+        figures.removed,
+    );
+    let undecided = first + figures.removed_length;
+    let second = put_count_line(none, undecided, b"undecided: ", figures.undecided);
+    let uncovered = second + figures.undecided_length;
+    let third = put_count_line(none, uncovered, b"uncovered: ", figures.uncovered);
+    let open = third + figures.uncovered_length;
+    let fourth = put_uncharacterised(b, work, plan, root, none, open);
+    put_graph(none, fourth, figures.undecided, figures.uncovered)
 }

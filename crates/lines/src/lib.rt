@@ -6,7 +6,5 @@ pub mod names;
 pub mod removed;
 pub mod repeated;
 pub mod sentence;
-pub mod table;
 pub mod uncovered;
 pub mod undecided;
-pub mod verdict;

@@ -2,7 +2,7 @@
 use crate::leading::put_restrictions;
 use crate::repeated::is_repeated;
 use crate::sentence::put_sentence;
-use crate::table::first_sentence;
+use cleaning::rounds::first_sentence;
 use cleaning::walks::fell;
 use index::Plan;
 use report::emit::put_byte;

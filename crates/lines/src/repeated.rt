@@ -1,6 +1,6 @@
 // Whether a sentence that fell repeats one that fell before it: same function name, same text.
 use crate::alike::same_pattern;
-use crate::table::first_sentence;
+use cleaning::rounds::first_sentence;
 use cleaning::walks::fell;
 use index::Plan;
 use index::names::function_name;

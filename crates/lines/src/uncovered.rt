@@ -2,9 +2,9 @@
 use crate::alike::same_function;
 use crate::leading::leads;
 use crate::sentence::put_name;
-use crate::table::first_sentence;
 use crate::undecided::Listed;
-use crate::verdict::verdict_at;
+use cleaning::rounds::first_sentence;
+use cleaning::verdict::verdict_at;
 use cleaning::walks::calls_of;
 use cleaning::walks::is_judged;
 use cleaning::walks::is_there;
@@ -37,6 +37,7 @@ ghost use Rattle.cleaning.specs.Cleaning.{isDisjoint};
 ghost use Rattle.cleaning.specs.CleanReport.{sameUncovered};
 ghost use Rattle.cleaning.specs.History.{isThere};
 ghost use Rattle.cleaning.specs.Indexed.{sitesOf, fellOf};
+ghost use Rattle.cleaning.specs.Room.{Remembering, Used};
 ghost use Rattle.cleaning.specs.Text.{formatTerms};
 ghost use Rattle.cleaning.specs.ToldReport.{uncoveredIn, judgedOnly, uncoveredTold, runsAfter};
 ghost use Rattle.report.specs.Fill.{Emitted, limit};
@@ -55,9 +56,10 @@ fn argument_of(b: &[u8], work: &[u32], plan: Plan, i: usize) -> usize
 }
 
 // Whether the sentence s is there when the round begins, and not Disjoint from the argument of the plain site i.
-fn covers(b: &[u8], work: &[u32], plan: Plan, s: usize, i: usize, round: usize) -> bool
-    requires { ⌜ SomeSite (now b) (now work) plan i × (s < plan .sentences) ⌝ }
-    ensures { λ r. ⌜ ((w : Program) (f : ℕ) (x : Function) (y : Held) (z : Sentence) → Readable (now (b .entry)) w (now (work .entry)) plan → getElem? (w .functions) f ≡ some x → getElem? (sitesOf w) i ≡ some y → isListed true (x .name) y ≡ true → getElem? (ownSentences (w .functions)) s ≡ some z → r ≡ (isThere (fellOf plan (now (work .entry))) round s && not (isDisjoint (patternsOverlap (z .pattern) (y .site .argument))))) ⌝ }
+fn covers(b: &[u8], work: &mut [u32], plan: Plan, s: usize, i: usize, round: usize) -> bool
+    requires { ⌜ SomeSite (now b) (now work) plan i × (s < plan .sentences) × Remembering (now b) plan (now work) ⌝ }
+    ensures answers { λ r. ⌜ ((w : Program) (f : ℕ) (x : Function) (y : Held) (z : Sentence) → Readable (now (b .entry)) w (now (work .entry)) plan → getElem? (w .functions) f ≡ some x → getElem? (sitesOf w) i ≡ some y → isListed true (x .name) y ≡ true → getElem? (ownSentences (w .functions)) s ≡ some z → r ≡ (isThere (fellOf plan (now (work .entry))) round s && not (isDisjoint (patternsOverlap (z .pattern) (y .site .argument))))) ⌝ }
+    ensures keeps { λ _. ⌜ Used (now (b .entry)) plan (now (work .entry)) (now (work .exit)) ⌝ }
 {
     if !is_there(work, plan, s, round) {
         return false;
@@ -67,9 +69,10 @@ fn covers(b: &[u8], work: &[u32], plan: Plan, s: usize, i: usize, round: usize) 
 }
 
 // Whether some sentence of the f-th function covers the argument of the plain site i.
-fn is_covered(b: &[u8], work: &[u32], plan: Plan, f: usize, i: usize, round: usize) -> bool
-    requires { ⌜ SomeSite (now b) (now work) plan i × (f < plan .functions) ⌝ }
-    ensures { λ r. ⌜ ((w : Program) (x : Function) (y : Held) → Readable (now (b .entry)) w (now (work .entry)) plan → getElem? (w .functions) f ≡ some x → getElem? (sitesOf w) i ≡ some y → isListed true (x .name) y ≡ true → isUncovered (isThere (fellOf plan (now (work .entry))) round) x (sentencesBefore f (w .functions)) (y .site .argument) ≡ not r) ⌝ }
+fn is_covered(b: &[u8], work: &mut [u32], plan: Plan, f: usize, i: usize, round: usize) -> bool
+    requires { ⌜ SomeSite (now b) (now work) plan i × (f < plan .functions) × Remembering (now b) plan (now work) ⌝ }
+    ensures answers { λ r. ⌜ ((w : Program) (x : Function) (y : Held) → Readable (now (b .entry)) w (now (work .entry)) plan → getElem? (w .functions) f ≡ some x → getElem? (sitesOf w) i ≡ some y → isListed true (x .name) y ≡ true → isUncovered (isThere (fellOf plan (now (work .entry))) round) x (sentencesBefore f (w .functions)) (y .site .argument) ≡ not r) ⌝ }
+    ensures keeps { λ _. ⌜ Used (now (b .entry)) plan (now (work .entry)) (now (work .exit)) ⌝ }
 {
     let end = first_sentence(work, plan, f + 1);
     let mut s = first_sentence(work, plan, f);
@@ -162,7 +165,7 @@ fn put_candidate(
 // Tells the plain site i of the f-th function, if it leads and is uncovered when the round begins.
 fn put_if_uncovered(
     b: &[u8],
-    work: &[u32],
+    work: &mut [u32],
     plan: Plan,
     f: usize,
     i: usize,
@@ -170,9 +173,10 @@ fn put_if_uncovered(
     out: &mut [u8],
     listed: Listed,
 ) -> Listed
-    requires { ⌜ SomeSite (now b) (now work) plan i × (f < plan .functions) × (listed .function ≤ f) × ((w : Program) → Readable (now b) w (now work) plan → PlainAt w (listed .function) (listed .item)) × (listed .at + 80000 ≤ limit) × (listed .count ≤ listed .at) ⌝ }
+    requires { ⌜ SomeSite (now b) (now work) plan i × (f < plan .functions) × (listed .function ≤ f) × ((w : Program) → Readable (now b) w (now work) plan → PlainAt w (listed .function) (listed .item)) × (listed .at + 80000 ≤ limit) × (listed .count ≤ listed .at) × Remembering (now b) plan (now work) ⌝ }
     ensures told { λ r. ⌜ ((w : Program) (x : Function) (y : Held) → Readable (now (b .entry)) w (now (work .entry)) plan → getElem? (w .functions) f ≡ some x → getElem? (sitesOf w) i ≡ some y → isListed true (x .name) y ≡ true → Uncovered w (uncoveredAt (isThere (fellOf plan (now (work .entry))) round) (sitesOf w) x (sentencesBefore f (w .functions)) i y) (now (out .entry)) (listed .at) (listed .count) (listed .function) (listed .item) (now (out .exit)) (r .at) (r .count) (r .function) (r .item)) ⌝ }
     ensures short { λ r. ⌜ (r .at ≤ listed .at + 80000) × (r .count ≤ r .at) × (r .function ≤ f) ⌝ }
+    ensures keeps { λ _. ⌜ Used (now (b .entry)) plan (now (work .entry)) (now (work .exit)) ⌝ }
 {
     if !leads(work, plan, i, round) {
         return listed;
@@ -186,16 +190,17 @@ fn put_if_uncovered(
 // Tells the uncovered restrictions of the f-th function.
 fn put_uncovered_in(
     b: &[u8],
-    work: &[u32],
+    work: &mut [u32],
     plan: Plan,
     f: usize,
     round: usize,
     out: &mut [u8],
     listed: Listed,
 ) -> Listed
-    requires { ⌜ SomeReadable (now b) (now work) plan × (f < plan .functions) × (listed .function ≤ f) × ((w : Program) → Readable (now b) w (now work) plan → PlainAt w (listed .function) (listed .item)) × (listed .at + 8192 * 80000 ≤ limit) × (listed .count ≤ listed .at) ⌝ }
+    requires { ⌜ SomeReadable (now b) (now work) plan × (f < plan .functions) × (listed .function ≤ f) × ((w : Program) → Readable (now b) w (now work) plan → PlainAt w (listed .function) (listed .item)) × (listed .at + 8192 * 80000 ≤ limit) × (listed .count ≤ listed .at) × Remembering (now b) plan (now work) ⌝ }
     ensures told { λ r. ⌜ ((w : Program) (x : Function) → Readable (now (b .entry)) w (now (work .entry)) plan → getElem? (w .functions) f ≡ some x → Uncovered w (uncoveredIn (isThere (fellOf plan (now (work .entry))) round) (sitesOf w) (sentencesBefore f (w .functions)) x) (now (out .entry)) (listed .at) (listed .count) (listed .function) (listed .item) (now (out .exit)) (r .at) (r .count) (r .function) (r .item)) ⌝ }
     ensures short { λ r. ⌜ (r .at ≤ listed .at + 8192 * 80000) × (r .count ≤ r .at) × (r .function ≤ f) ⌝ }
+    ensures keeps { λ _. ⌜ Used (now (b .entry)) plan (now (work .entry)) (now (work .exit)) ⌝ }
 {
     let links = calls_of(plan) + plan.sites;
     let mut i = head_site(work, plan.functions, f, true);
@@ -210,16 +215,17 @@ fn put_uncovered_in(
 // The same, if the round judges the f-th function: the others give nothing.
 fn put_if_judged(
     b: &[u8],
-    work: &[u32],
+    work: &mut [u32],
     plan: Plan,
     f: usize,
     round: usize,
     out: &mut [u8],
     listed: Listed,
 ) -> Listed
-    requires { ⌜ SomeReadable (now b) (now work) plan × (f < plan .functions) × (listed .function ≤ f) × ((w : Program) → Readable (now b) w (now work) plan → PlainAt w (listed .function) (listed .item)) × (listed .at + 8192 * 80000 ≤ limit) × (listed .count ≤ listed .at) ⌝ }
+    requires { ⌜ SomeReadable (now b) (now work) plan × (f < plan .functions) × (listed .function ≤ f) × ((w : Program) → Readable (now b) w (now work) plan → PlainAt w (listed .function) (listed .item)) × (listed .at + 8192 * 80000 ≤ limit) × (listed .count ≤ listed .at) × Remembering (now b) plan (now work) ⌝ }
     ensures told { λ r. ⌜ ((w : Program) (x : Function) → Readable (now (b .entry)) w (now (work .entry)) plan → getElem? (w .functions) f ≡ some x → Uncovered w (judgedOnly (isJudged (isThere (fellOf plan (now (work .entry))) round) (x .name) (sitesOf w)) (uncoveredIn (isThere (fellOf plan (now (work .entry))) round) (sitesOf w) (sentencesBefore f (w .functions)) x)) (now (out .entry)) (listed .at) (listed .count) (listed .function) (listed .item) (now (out .exit)) (r .at) (r .count) (r .function) (r .item)) ⌝ }
     ensures short { λ r. ⌜ (r .at ≤ listed .at + 8192 * 80000) × (r .count ≤ r .at) × (r .function ≤ f) ⌝ }
+    ensures keeps { λ _. ⌜ Used (now (b .entry)) plan (now (work .entry)) (now (work .exit)) ⌝ }
 {
     if !is_judged(work, plan, f, round) {
         return listed;
@@ -231,16 +237,17 @@ fn put_if_judged(
 // there may be a line for each function and site.
 pub fn put_uncovered(
     b: &[u8],
-    work: &[u32],
+    work: &mut [u32],
     plan: Plan,
     round: usize,
     out: &mut [u8],
     at: usize,
 ) -> Listed
-    requires { ⌜ SomeReadable (now b) (now work) plan × (at + 8192 * (8192 * 80000) ≤ limit) ⌝ }
+    requires { ⌜ SomeReadable (now b) (now work) plan × (at + 8192 * (8192 * 80000) ≤ limit) × Remembering (now b) plan (now work) ⌝ }
     ensures told { λ r. ⌜ ((w : Program) → Readable (now (b .entry)) w (now (work .entry)) plan → Emitted (now (out .entry)) at (flatMap uncoveredLine (runsAfter sameUncovered [] (uncoveredTold (isThere (fellOf plan (now (work .entry))) round) (sitesOf w) 0 (w .functions)))) (r .at) (now (out .exit))) ⌝ }
     ensures counted { λ r. ⌜ ((w : Program) → Readable (now (b .entry)) w (now (work .entry)) plan → r .count ≡ length (runsAfter sameUncovered [] (uncoveredTold (isThere (fellOf plan (now (work .entry))) round) (sitesOf w) 0 (w .functions)))) ⌝ }
     ensures short { λ r. ⌜ r .at ≤ at + 8192 * (8192 * 80000) ⌝ }
+    ensures keeps { λ _. ⌜ Used (now (b .entry)) plan (now (work .entry)) (now (work .exit)) ⌝ }
 {
     let mut last = Listed {
         at: at,

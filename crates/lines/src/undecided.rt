@@ -2,8 +2,8 @@
 use crate::alike::same_function;
 use crate::alike::same_pattern;
 use crate::sentence::put_sentence;
-use crate::table::first_sentence;
-use crate::verdict::verdict_at;
+use cleaning::rounds::first_sentence;
+use cleaning::verdict::verdict_at;
 use cleaning::walks::calls_of;
 use cleaning::walks::is_judged;
 use cleaning::walks::is_there;
@@ -31,6 +31,7 @@ ghost use Rattle.cleaning.specs.Asked.{isJudged};
 ghost use Rattle.cleaning.specs.CleanReport.{sameUndecided};
 ghost use Rattle.cleaning.specs.History.{isThere};
 ghost use Rattle.cleaning.specs.Indexed.{sitesOf, Indexed, fellOf};
+ghost use Rattle.cleaning.specs.Room.{Remembering, Used};
 ghost use Rattle.cleaning.specs.ToldReport.{overlaps, undecidedIn, judgedOnly, undecidedTold, runsAfter};
 ghost use Rattle.cleaning.specs.Walks.{SomeAsked};
 ghost use Rattle.report.specs.Fill.{Emitted, limit};
@@ -48,9 +49,17 @@ pub struct Listed {
 }
 
 // Whether the site i is there when the round begins, and the pattern that stands at `pattern` of the body b has an Overlap with it.
-fn overlaps_at(b: &[u8], work: &[u32], plan: Plan, pattern: usize, i: usize, round: usize) -> bool
-    requires { ⌜ SomeAsked (now b) (now work) plan pattern i ⌝ }
-    ensures { λ r. ⌜ ((w : Program) (f : ℕ) (x : Function) (y : Held) → Indexed (now (b .entry)) w (now (work .entry)) plan → getElem? (w .functions) f ≡ some x → getElem? (sitesOf w) i ≡ some y → isListed true (x .name) y ≡ true → (t : TermsAt Mode.pattern (drop pattern (now (b .entry)))) → r ≡ overlaps (isThere (fellOf plan (now (work .entry))) round) (x .name) (t .terms) y) ⌝ }
+fn overlaps_at(
+    b: &[u8],
+    work: &mut [u32],
+    plan: Plan,
+    pattern: usize,
+    i: usize,
+    round: usize,
+) -> bool
+    requires { ⌜ SomeAsked (now b) (now work) plan pattern i × (length (now b) ≤ 32768) × Remembering (now b) plan (now work) ⌝ }
+    ensures answers { λ r. ⌜ ((w : Program) (f : ℕ) (x : Function) (y : Held) → Indexed (now (b .entry)) w (now (work .entry)) plan → getElem? (w .functions) f ≡ some x → getElem? (sitesOf w) i ≡ some y → isListed true (x .name) y ≡ true → (t : TermsAt Mode.pattern (drop pattern (now (b .entry)))) → r ≡ overlaps (isThere (fellOf plan (now (work .entry))) round) (x .name) (t .terms) y) ⌝ }
+    ensures keeps { λ _. ⌜ Used (now (b .entry)) plan (now (work .entry)) (now (work .exit)) ⌝ }
 {
     if !site_there(work, plan, i, round) {
         return false;
@@ -59,9 +68,10 @@ fn overlaps_at(b: &[u8], work: &[u32], plan: Plan, pattern: usize, i: usize, rou
 }
 
 // Whether a restriction of the f-th function gives its sentence s Overlap when the round begins.
-fn is_decided(b: &[u8], work: &[u32], plan: Plan, f: usize, s: usize, round: usize) -> bool
-    requires { ⌜ SomeReadable (now b) (now work) plan × (f < plan .functions) × (s < plan .sentences) ⌝ }
-    ensures { λ r. ⌜ ((w : Program) (x : Function) (y : Sentence) → Readable (now (b .entry)) w (now (work .entry)) plan → getElem? (w .functions) f ≡ some x → getElem? (ownSentences (w .functions)) s ≡ some y → r ≡ any (overlaps (isThere (fellOf plan (now (work .entry))) round) (x .name) (y .pattern)) (sitesOf w)) ⌝ }
+fn is_decided(b: &[u8], work: &mut [u32], plan: Plan, f: usize, s: usize, round: usize) -> bool
+    requires { ⌜ SomeReadable (now b) (now work) plan × (f < plan .functions) × (s < plan .sentences) × Remembering (now b) plan (now work) ⌝ }
+    ensures answers { λ r. ⌜ ((w : Program) (x : Function) (y : Sentence) → Readable (now (b .entry)) w (now (work .entry)) plan → getElem? (w .functions) f ≡ some x → getElem? (ownSentences (w .functions)) s ≡ some y → r ≡ any (overlaps (isThere (fellOf plan (now (work .entry))) round) (x .name) (y .pattern)) (sitesOf w)) ⌝ }
+    ensures keeps { λ _. ⌜ Used (now (b .entry)) plan (now (work .entry)) (now (work .exit)) ⌝ }
 {
     let pattern = place_of(work, 2 * plan.functions + s) + 9;
     let links = calls_of(plan) + plan.sites;
@@ -124,7 +134,7 @@ fn put_candidate(
 // Tells the sentence s of the f-th function, if it is there and undecided when the round begins.
 fn put_if_undecided(
     b: &[u8],
-    work: &[u32],
+    work: &mut [u32],
     plan: Plan,
     f: usize,
     s: usize,
@@ -132,9 +142,10 @@ fn put_if_undecided(
     out: &mut [u8],
     listed: Listed,
 ) -> Listed
-    requires { ⌜ SomeReadable (now b) (now work) plan × (f < plan .functions) × (s < plan .sentences) × (listed .function ≤ f) × (listed .at + 80000 ≤ limit) × (listed .count ≤ listed .at) ⌝ }
+    requires { ⌜ SomeReadable (now b) (now work) plan × (f < plan .functions) × (s < plan .sentences) × (listed .function ≤ f) × (listed .at + 80000 ≤ limit) × (listed .count ≤ listed .at) × Remembering (now b) plan (now work) ⌝ }
     ensures told { λ r. ⌜ ((w : Program) (x : Function) (y : Sentence) → Readable (now (b .entry)) w (now (work .entry)) plan → getElem? (w .functions) f ≡ some x → getElem? (ownSentences (w .functions)) s ≡ some y → Undecided w (undecidedAt (isThere (fellOf plan (now (work .entry))) round) (sitesOf w) x s y) (now (out .entry)) (listed .at) (listed .count) (listed .function) (listed .item) (now (out .exit)) (r .at) (r .count) (r .function) (r .item)) ⌝ }
     ensures short { λ r. ⌜ (r .at ≤ listed .at + 80000) × (r .count ≤ r .at) × (r .function ≤ f) ⌝ }
+    ensures keeps { λ _. ⌜ Used (now (b .entry)) plan (now (work .entry)) (now (work .exit)) ⌝ }
 {
     if !is_there(work, plan, s, round) {
         return listed;
@@ -148,16 +159,17 @@ fn put_if_undecided(
 // Tells the undecided sentences of the f-th function.
 fn put_undecided_in(
     b: &[u8],
-    work: &[u32],
+    work: &mut [u32],
     plan: Plan,
     f: usize,
     round: usize,
     out: &mut [u8],
     listed: Listed,
 ) -> Listed
-    requires { ⌜ SomeReadable (now b) (now work) plan × (f < plan .functions) × (listed .function ≤ f) × ((w : Program) → Readable (now b) w (now work) plan → listed .at + 80000 * sentencesBefore (suc f) (w .functions) ≤ limit + 80000 * sentencesBefore f (w .functions)) × (listed .count ≤ listed .at) ⌝ }
+    requires { ⌜ SomeReadable (now b) (now work) plan × (f < plan .functions) × (listed .function ≤ f) × ((w : Program) → Readable (now b) w (now work) plan → listed .at + 80000 * sentencesBefore (suc f) (w .functions) ≤ limit + 80000 * sentencesBefore f (w .functions)) × (listed .count ≤ listed .at) × Remembering (now b) plan (now work) ⌝ }
     ensures told { λ r. ⌜ ((w : Program) (x : Function) → Readable (now (b .entry)) w (now (work .entry)) plan → getElem? (w .functions) f ≡ some x → Undecided w (undecidedIn (isThere (fellOf plan (now (work .entry))) round) (sitesOf w) (sentencesBefore f (w .functions)) x) (now (out .entry)) (listed .at) (listed .count) (listed .function) (listed .item) (now (out .exit)) (r .at) (r .count) (r .function) (r .item)) ⌝ }
     ensures short { λ r. ⌜ ((w : Program) → Readable (now (b .entry)) w (now (work .entry)) plan → r .at + 80000 * sentencesBefore f (w .functions) ≤ listed .at + 80000 * sentencesBefore (suc f) (w .functions)) × (r .count ≤ r .at) × (r .function ≤ f) ⌝ }
+    ensures keeps { λ _. ⌜ Used (now (b .entry)) plan (now (work .entry)) (now (work .exit)) ⌝ }
 {
     let end = first_sentence(work, plan, f + 1);
     let mut s = first_sentence(work, plan, f);
@@ -172,16 +184,17 @@ fn put_undecided_in(
 // The same, if the round judges the f-th function: the others give nothing.
 fn put_if_judged(
     b: &[u8],
-    work: &[u32],
+    work: &mut [u32],
     plan: Plan,
     f: usize,
     round: usize,
     out: &mut [u8],
     listed: Listed,
 ) -> Listed
-    requires { ⌜ SomeReadable (now b) (now work) plan × (f < plan .functions) × (listed .function ≤ f) × ((w : Program) → Readable (now b) w (now work) plan → listed .at + 80000 * sentencesBefore (suc f) (w .functions) ≤ limit + 80000 * sentencesBefore f (w .functions)) × (listed .count ≤ listed .at) ⌝ }
+    requires { ⌜ SomeReadable (now b) (now work) plan × (f < plan .functions) × (listed .function ≤ f) × ((w : Program) → Readable (now b) w (now work) plan → listed .at + 80000 * sentencesBefore (suc f) (w .functions) ≤ limit + 80000 * sentencesBefore f (w .functions)) × (listed .count ≤ listed .at) × Remembering (now b) plan (now work) ⌝ }
     ensures told { λ r. ⌜ ((w : Program) (x : Function) → Readable (now (b .entry)) w (now (work .entry)) plan → getElem? (w .functions) f ≡ some x → Undecided w (judgedOnly (isJudged (isThere (fellOf plan (now (work .entry))) round) (x .name) (sitesOf w)) (undecidedIn (isThere (fellOf plan (now (work .entry))) round) (sitesOf w) (sentencesBefore f (w .functions)) x)) (now (out .entry)) (listed .at) (listed .count) (listed .function) (listed .item) (now (out .exit)) (r .at) (r .count) (r .function) (r .item)) ⌝ }
     ensures short { λ r. ⌜ ((w : Program) → Readable (now (b .entry)) w (now (work .entry)) plan → r .at + 80000 * sentencesBefore f (w .functions) ≤ listed .at + 80000 * sentencesBefore (suc f) (w .functions)) × (r .count ≤ r .at) × (r .function ≤ f) ⌝ }
+    ensures keeps { λ _. ⌜ Used (now (b .entry)) plan (now (work .entry)) (now (work .exit)) ⌝ }
 {
     if !is_judged(work, plan, f, round) {
         return listed;
@@ -192,16 +205,17 @@ fn put_if_judged(
 // Every undecided sentence as a line, neighbouring repeats left out.
 pub fn put_undecided(
     b: &[u8],
-    work: &[u32],
+    work: &mut [u32],
     plan: Plan,
     round: usize,
     out: &mut [u8],
     at: usize,
 ) -> Listed
-    requires { ⌜ SomeReadable (now b) (now work) plan × (at + 8192 * 80000 ≤ limit) ⌝ }
+    requires { ⌜ SomeReadable (now b) (now work) plan × (at + 8192 * 80000 ≤ limit) × Remembering (now b) plan (now work) ⌝ }
     ensures told { λ r. ⌜ ((w : Program) → Readable (now (b .entry)) w (now (work .entry)) plan → Emitted (now (out .entry)) at (flatMap undecidedLine (runsAfter sameUndecided [] (undecidedTold (isThere (fellOf plan (now (work .entry))) round) (sitesOf w) 0 (w .functions)))) (r .at) (now (out .exit))) ⌝ }
     ensures counted { λ r. ⌜ ((w : Program) → Readable (now (b .entry)) w (now (work .entry)) plan → r .count ≡ length (runsAfter sameUndecided [] (undecidedTold (isThere (fellOf plan (now (work .entry))) round) (sitesOf w) 0 (w .functions)))) ⌝ }
     ensures short { λ r. ⌜ r .at ≤ at + 8192 * 80000 ⌝ }
+    ensures keeps { λ _. ⌜ Used (now (b .entry)) plan (now (work .entry)) (now (work .exit)) ⌝ }
 {
     let mut last = Listed {
         at: at,

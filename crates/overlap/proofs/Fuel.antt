@@ -61,12 +61,16 @@ pub fuel-falls : (f : ℕ) (a b : Terms) → sequence f a b .fuel ≤ f
 unfolding sequence
 fuel-falls f a b = spends-to (suc (size a + size b)) f a b
 
+-- An entry spends 1.
+pub sequence-spends : (f : ℕ) (a b : Terms) → sequence (suc f) a b .fuel ≤ f
+sequence-spends f a b = omega (arith, ap (λ (q : Found). q .fuel) (spend-one f a b), entered-spend sequence fuel-falls (view a) (view b) a b f)
+
 pub spent-and-left : (a b : Terms) → spent a b + sequence start a b .fuel ≡ start
 unfolding spent
 spent-and-left a b = omega (arith, fuel-falls start a b)
 
 -- A pair that comes to an entry with fuel 0.
-splits-without : (os : List Terms) (r : Terms) → splitsFrom sequence r os Unknown 0 ≡ found Unknown 0
+pub splits-without : (os : List Terms) (r : Terms) → splitsFrom sequence r os Unknown 0 ≡ found Unknown 0
 unfolding splitsFrom
 splits-without [] r = refl
 splits-without (o ∷ os) r = ap (λ (q : Found). afterSplit (q .verdict) (q .fuel) Unknown (λ u e. splitsFrom sequence r os u e)) (no-fuel r o) ∙ splits-without os r

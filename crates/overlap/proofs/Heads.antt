@@ -1,9 +1,10 @@
 -- Two heads in an image by their marks: which verdict they have.
-use Prim.Native.Nat.{ℕ, suc, _<_, _≤_, zero-le}
+use Prim.Native.Nat.{ℕ, suc, _+_, _<_, _≤_, zero-le}
 use native.Mathlib.Omega.{arith}
 use mathlib.Core.Path.{_≡_, refl, sym, ap, ap₂, _∙_, subst}
 use mathlib.Core.List.{List}
-use lib.ListN.{length, drop, getD}
+use lib.ListN.{length, drop, getD, length-drop}
+use lib.Seq.{drop-drop}
 use Rattle.image.specs.Syntax.{character, identifier, number, s-kind, t-kind, e-kind, Terms, nil, symbol, variable, bracket, call, block}
 use Rattle.image.specs.Bytes.{put32, putSpan}
 use Rattle.image.specs.Encode.{putTerms}
@@ -176,3 +177,14 @@ module _ {a b : List ℕ} (x : HeadAt a) (y : HeadAt b) where
   pub two-literals : (m : LiteralAt x) (n : LiteralAt y) → overlapOfTerms sequence (x .head) (y .head) ≡ literalOverlap (sameSymbol (m .symbol .symbol) (n .symbol .symbol))
   unfolding overlapOfTerms
   two-literals m n = ap₂ (overlapOfTerms sequence) (m .is) (n .is)
+
+-- The same at places of a body: what a bracket holds, and a symbol at the start of the part from there.
+abbrev pub inner-in : (b : List ℕ) (p : ℕ) {x : HeadAt (drop p b)} → BracketAt x → TermsAt Mode.pattern (drop (p + 9) b)
+inner-in b p k = record { terms = k .inner .terms; rest = k .inner .rest; is = sym (drop-drop 9 p b) ∙ sym (part-rest (drop p b) 9) ∙ k .inner .is; valid = k .inner .valid }
+
+abbrev pub symbol-in : (b : List ℕ) (p : ℕ) → SymbolAt (drop p b) → SymbolAt (part b p)
+symbol-in b p k = record { span = k .span; symbol = k .symbol; rest = k .rest; is = part-rest b p ∙ k .is; valid = k .valid }
+
+-- A head is in the body.
+pub head-inside : (b : List ℕ) (p : ℕ) → HeadAt (drop p b) → p + 9 < length b
+head-inside b p x = omega (arith, head-room x, length-drop p b)

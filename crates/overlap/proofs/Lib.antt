@@ -9,7 +9,11 @@ pub mod Meet
 pub mod Overlap
 pub mod Unknown
 pub mod Fuel
+pub mod Costs
 pub mod Table
 pub mod Readings
 pub mod Heads
 pub mod Turns
+pub mod Plugging
+pub mod Memory
+pub mod Values

@@ -1,10 +1,10 @@
 -- Patterns in an image by their first mark, and the pattern after the first term.
 use Prim.Native.Nat.{ℕ, _+_, _-_, _<_, _≤_}
 use native.Mathlib.Omega.{arith}
-use mathlib.Core.Path.{_≡_, refl, sym, ap, _∙_}
+use mathlib.Core.Path.{_≡_, refl, sym, ap, subst, _∙_}
 use mathlib.Core.List.{List}
 use lib.ListN.{length, take, drop, getD, length-drop}
-use lib.Seq.{drop-drop}
+use lib.Seq.{drop-drop, getD-drop}
 use Rattle.image.specs.Syntax.{character, identifier, number, s-kind, t-kind, e-kind, Terms, nil, symbol, variable, bracket, call, block}
 use Rattle.image.specs.Bytes.{putName}
 use Rattle.image.specs.Encode.{putSymbol, kindMark, putTerms}
@@ -161,3 +161,52 @@ module _ {s : List ℕ} (p : TermsAt Mode.pattern s) where
 pub next-fits : (s : List ℕ) (i : ℕ) (p : TermsAt Mode.pattern (part s i)) → (getD (part s i) 0 0 ≡ 15 → ⊥) → i ≤ length s → (n : ℕ) → Passes (part s i) n (putTerms (tail (p .terms)) (p .rest))
     → (i + n ≤ length s) × (0 < n) × (n ≤ length (part s i))
 next-fits s i p m l n h = (omega (arith, h .fits, part-length s i), term-long p m n h, h .fits)
+
+-- A place with a pattern is in the body, and the pattern is at the start of the part from there.
+pub inside : (b : List ℕ) (p : ℕ) → TermsAt Mode.pattern (drop p b) → p < length b
+inside b p x = omega (arith, pattern-room x, length-drop p b)
+
+abbrev pub at-part : (b : List ℕ) (p : ℕ) → TermsAt Mode.pattern (drop p b) → TermsAt Mode.pattern (part b p)
+at-part b p x = record { terms = x .terms; rest = x .rest; is = part-rest b p ∙ x .is; valid = x .valid }
+
+-- The first mark of what stands at a place.
+pub mark-in : (b : List ℕ) (i : ℕ) → getD (drop i b) 0 0 ≡ getD b i 0
+mark-in b i = getD-drop i b 0 0 ∙ ap (λ (k : ℕ). getD b k 0) (omega arith)
+
+-- The same as above of a pattern at a place.
+module _ (b : List ℕ) (i : ℕ) (p : TermsAt Mode.pattern (drop i b)) where
+  pub empty-in : getD b i 0 ≡ 15 → view (p .terms) ≡ View.nothing
+  empty-in m = is-empty p (mark-in b i ∙ m)
+
+  pub not-empty-in : (getD b i 0 ≡ 15 → ⊥) → view (p .terms) ≡ View.nothing → ⊥
+  not-empty-in m = is-not-empty p (λ e. m (sym (mark-in b i) ∙ e))
+
+  pub absorbing-in : getD b i 0 ≡ 6 → view (p .terms) ≡ View.absorbing (tail (p .terms))
+  absorbing-in m = is-absorbing p (mark-in b i ∙ m)
+
+  pub one-head-in : (getD b i 0 ≡ 15 → ⊥) → (getD b i 0 ≡ 6 → ⊥) → (x : One) × (view (p .terms) ≡ View.one x (tail (p .terms)))
+  one-head-in m n = one-head p (λ e. m (sym (mark-in b i) ∙ e)) (λ e. n (sym (mark-in b i) ∙ e))
+
+  abbrev pub head-in : (getD b i 0 ≡ 15 → ⊥) → (getD b i 0 ≡ 6 → ⊥) → HeadAt (drop i b)
+  head-in m n = record { pattern = p; head = one-head-in m n .0; rest = tail (p .terms); is = one-head-in m n .1 }
+
+  -- The pattern after its first term, which ends at the place r.
+  abbrev pub next-in : (r : ℕ) → i ≤ r → Passes (drop i b) (r - i) (putTerms (tail (p .terms)) (p .rest)) → TermsAt Mode.pattern (drop r b)
+  next-in r l h = record { terms = tail (p .terms); rest = p .rest; is = next-is r l h; valid = tail-valid (p .terms) Mode.pattern 0 (p .valid) }
+    where
+      next-is : (r : ℕ) → i ≤ r → Passes (drop i b) (r - i) (putTerms (tail (p .terms)) (p .rest)) → drop r b ≡ putTerms (tail (p .terms)) (p .rest)
+      next-is r l h = ap (λ (k : ℕ). drop k b) (sum r l) ∙ sym (drop-drop (r - i) i b) ∙ h .left
+        where
+          sum : (r : ℕ) → i ≤ r → r ≡ i + (r - i)
+          sum r l = omega arith
+
+  pub next-later : (getD b i 0 ≡ 15 → ⊥) → (r : ℕ) → i ≤ r → Passes (drop i b) (r - i) (putTerms (tail (p .terms)) (p .rest)) → i < r
+  next-later m r l h = omega (arith, term-long p (λ e. m (sym (mark-in b i) ∙ e)) (r - i) h)
+
+-- The length of a term in the part from a place gives the place after it.
+pub place-after : (b : List ℕ) (i n : ℕ) (p : TermsAt Mode.pattern (drop i b)) → Passes (part b i) n (putTerms (tail (p .terms)) (p .rest))
+    → (i ≤ i + n) × Passes (drop i b) (i + n - i) (putTerms (tail (p .terms)) (p .rest))
+place-after b i n p h = (omega arith, record { fits = subst (λ (k : ℕ). k ≤ length (drop i b)) same (rw (sym (ap length (part-rest b i))) (h .fits)); left = subst (λ (k : ℕ). drop k (drop i b) ≡ putTerms (tail (p .terms)) (p .rest)) same (sym (ap (drop n) (part-rest b i)) ∙ h .left) })
+  where
+    same : n ≡ i + n - i
+    same = omega arith

@@ -8,3 +8,5 @@ pub mod Starved
 pub mod Table
 pub mod Parts
 pub mod Steps
+pub mod Memory
+pub mod Stack

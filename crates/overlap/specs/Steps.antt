@@ -26,3 +26,14 @@ abbrev pub behind : Verdict → Found → Found
 behind Disjoint q = found Disjoint (q .fuel)
 behind Overlap q = q
 behind Unknown q = found (afterUnknown (q .verdict)) (q .fuel)
+
+-- The verdict alone of that, and that of all ends of a split once the last of them, or one that meets, has a verdict.
+abbrev pub behindVerdict : Verdict → Verdict → Verdict
+behindVerdict Disjoint v = Disjoint
+behindVerdict Overlap v = v
+behindVerdict Unknown v = afterUnknown v
+
+abbrev pub endedBy : Verdict → Verdict → Verdict
+endedBy v Disjoint = v
+endedBy v Overlap = Overlap
+endedBy v Unknown = Unknown

@@ -1,13 +1,17 @@
-// The overlap search on two patterns, each a part of an image that starts at a term or at the
-// pattern's close and may go on after it.
-use image::part::term_len;
-use symbols::same_symbol;
+// The overlap search on two patterns, which stand at places of one body.
+mod search;
+mod slots;
+mod stack;
+mod terms;
+
 ghost use mathlib.Core.Path.{_≡_};
+ghost use Prim.Native.Nat.{_≤_};
+ghost use lib.ListN.{length, drop};
 ghost use Rattle.image.specs.Limits.{Mode};
 ghost use Rattle.image.specs.Parts.{TermsAt};
-ghost use Rattle.overlap.specs.Search.{found, leftoverOverlap, literalOverlap, absorbingSplit, overlapOfTerms, start, sequence};
-ghost use Rattle.overlap.specs.Parts.{HeadAt};
-ghost use Rattle.overlap.specs.Steps.{isOverlap, isDisjoint, remembered, behind};
+ghost use Rattle.overlap.specs.Search.{found, literalOverlap, start, sequence, patternsOverlap};
+ghost use Rattle.overlap.specs.Memory.{Remembers, Searched};
+ghost use Rattle.overlap.specs.Steps.{isOverlap, isDisjoint, remembered, behind, behindVerdict, endedBy};
 
 // The answer to whether one expression can match two patterns.
 pub enum Verdict {
@@ -22,8 +26,17 @@ pub struct Found {
     pub fuel: u32,
 }
 
+// How the entries lent to a search are divided: so many for open splits, then three tables of so many slots.
+pub struct Room {
+    pub frames: usize,
+    pub slots: usize,
+}
+
 // The fuel of each pair of sequences.
 const OVERLAP_FUEL: u32 = 4096;
+
+// How many splits may be open as calls, before the stack in the room serves.
+const NATIVE_DEPTH: u32 = 6;
 
 pub fn is_overlap(v: Verdict) -> bool
     ensures { λ r. ⌜ r ≡ isOverlap v ⌝ }
@@ -83,25 +96,6 @@ fn behind_heads(heads: Verdict, v: Verdict, fuel: u32) -> Found
     }
 }
 
-// Whether the terms up to the close can stand for nothing: only `e.` variables can.
-fn leftover_overlap(s: &[u8]) -> Verdict
-    requires { ⌜ TermsAt Mode.pattern (now s) ⌝ }
-    ensures { λ r. ⌜ ((p : TermsAt Mode.pattern (now (s .entry))) → r ≡ leftoverOverlap (p .terms)) ⌝ }
-{
-    let mut i: usize = 0;
-    loop {
-        let x = &s[i..];
-        let m = x[0];
-        if m == 15 {
-            return Verdict::Overlap;
-        }
-        if m != 6 {
-            return Verdict::Disjoint;
-        }
-        i += term_len(x);
-    }
-}
-
 fn literal_overlap(equal: bool) -> Verdict
     ensures { λ r. ⌜ r ≡ literalOverlap equal ⌝ }
 {
@@ -112,122 +106,39 @@ fn literal_overlap(equal: bool) -> Verdict
     }
 }
 
-// The verdict on two heads, neither an `e.` variable, by their marks.
-fn overlap_of_terms(a: &[u8], b: &[u8]) -> Verdict
-    requires { ⌜ HeadAt (now a) × HeadAt (now b) ⌝ }
-    ensures { λ r. ⌜ ((x : HeadAt (now (a .entry))) (y : HeadAt (now (b .entry))) → r ≡ overlapOfTerms sequence (x .head) (y .head)) ⌝ }
+// The verdict on the tails, behind heads with a verdict.
+fn behind_verdict(heads: Verdict, v: Verdict) -> Verdict
+    ensures { λ r. ⌜ r ≡ behindVerdict heads v ⌝ }
 {
-    let m = a[0];
-    let n = b[0];
-    if m == 7 {
-        if n == 7 {
-            let q = sequence(&a[9..], &b[9..], OVERLAP_FUEL);
-            return q.verdict;
-        }
-        if n < 5 {
-            return Verdict::Disjoint;
-        }
-        return Verdict::Overlap;
-    }
-    if n == 7 {
-        if m < 5 {
-            return Verdict::Disjoint;
-        }
-        return Verdict::Overlap;
-    }
-    if 3 < m {
-        return Verdict::Overlap;
-    }
-    if 3 < n {
-        return Verdict::Overlap;
-    }
-    literal_overlap(same_symbol(a, b))
+    let q = behind_heads(heads, v, 0);
+    q.verdict
 }
 
-// An `e.` variable before `rest`, against `other`: every end of `other` is tried, the whole first.
-fn absorbing_split(rest: &[u8], other: &[u8], fuel: u32) -> Found
-    requires { ⌜ TermsAt Mode.pattern (now rest) × TermsAt Mode.pattern (now other) ⌝ }
-    ensures { λ r. ⌜ ((p : TermsAt Mode.pattern (now (rest .entry))) (q : TermsAt Mode.pattern (now (other .entry))) → r ≡ absorbingSplit sequence fuel (p .terms) (q .terms)) ⌝ }
+// The verdict of all ends of a split, so far and then the last, or one that meets.
+fn ended_by(earlier: Verdict, v: Verdict) -> Verdict
+    ensures { λ r. ⌜ r ≡ endedBy earlier v ⌝ }
 {
-    let mut i: usize = 0;
-    let mut left = fuel;
-    let mut verdict = Verdict::Disjoint;
-    loop {
-        let x = &other[i..];
-        let q = sequence(rest, x, left);
-        let v = q.verdict;
-        let f = q.fuel;
-        if is_overlap(v) {
-            return q;
-        }
-        verdict = remember(verdict, v);
-        left = f;
-        if x[0] == 15 {
-            return Found {
-                verdict,
-                fuel: left,
-            };
-        }
-        i += term_len(x);
+    match v {
+        Verdict::Disjoint => earlier,
+        Verdict::Overlap => Verdict::Overlap,
+        Verdict::Unknown => Verdict::Unknown,
     }
 }
 
-// Two patterns: their heads in turn, until one is at its close or at an `e.` variable.
-fn sequence(first: &[u8], second: &[u8], fuel: u32) -> Found
-    requires { ⌜ TermsAt Mode.pattern (now first) × TermsAt Mode.pattern (now second) ⌝ }
-    ensures { λ r. ⌜ ((p : TermsAt Mode.pattern (now (first .entry))) (q : TermsAt Mode.pattern (now (second .entry))) → r ≡ sequence fuel (p .terms) (q .terms)) ⌝ }
+// The search on the patterns that stand at p and q of a body, with entries in which it may remember.
+pub fn patterns_overlap(b: &[u8], p: usize, q: usize, room: &mut [u32], lent: Room) -> Found
+    requires { ⌜ TermsAt Mode.pattern (drop p (now b)) × TermsAt Mode.pattern (drop q (now b)) × (length (now b) ≤ 32768) × Remembers (now b) (now room) lent ⌝ }
+    ensures answers { λ r. ⌜ ((x : TermsAt Mode.pattern (drop p (now (b .entry)))) (y : TermsAt Mode.pattern (drop q (now (b .entry)))) → r ≡ sequence start (x .terms) (y .terms)) ⌝ }
+    ensures keeps { λ _. ⌜ Searched (now (b .entry)) lent 0 (now (room .entry)) (now (room .exit)) ⌝ }
 {
-    let mut i: usize = 0;
-    let mut j: usize = 0;
-    let mut left = fuel;
-    let mut heads = Verdict::Overlap;
-    while 0 < left {
-        left -= 1;
-        let x = &first[i..];
-        let y = &second[j..];
-        let m = x[0];
-        let n = y[0];
-        if m == 15 {
-            return behind_heads(heads, leftover_overlap(y), left);
-        }
-        if n == 15 {
-            return behind_heads(heads, leftover_overlap(x), left);
-        }
-        let d = term_len(x);
-        let e = term_len(y);
-        if m == 6 {
-            let q = absorbing_split(&x[d..], y, left);
-            let v = q.verdict;
-            let f = q.fuel;
-            return behind_heads(heads, v, f);
-        }
-        if n == 6 {
-            let q = absorbing_split(&y[e..], x, left);
-            let v = q.verdict;
-            let f = q.fuel;
-            return behind_heads(heads, v, f);
-        }
-        let v = overlap_of_terms(x, y);
-        if is_disjoint(v) {
-            return Found {
-                verdict: Verdict::Disjoint,
-                fuel: left,
-            };
-        }
-        heads = remember(heads, v);
-        i += d;
-        j += e;
-    }
-    Found {
-        verdict: Verdict::Unknown,
-        fuel: 0,
-    }
+    search::sequence(b, p, q, OVERLAP_FUEL, NATIVE_DEPTH, 0, room, lent)
 }
 
-// The search on two whole patterns.
-pub fn patterns_overlap(first: &[u8], second: &[u8]) -> Found
-    requires { ⌜ TermsAt Mode.pattern (now first) × TermsAt Mode.pattern (now second) ⌝ }
-    ensures { λ r. ⌜ ((p : TermsAt Mode.pattern (now (first .entry))) (q : TermsAt Mode.pattern (now (second .entry))) → r ≡ sequence start (p .terms) (q .terms)) ⌝ }
+// The verdict alone, which is remembered as that of a bracket pair is.
+pub fn patterns_verdict(b: &[u8], p: usize, q: usize, room: &mut [u32], lent: Room) -> Verdict
+    requires { ⌜ TermsAt Mode.pattern (drop p (now b)) × TermsAt Mode.pattern (drop q (now b)) × (length (now b) ≤ 32768) × Remembers (now b) (now room) lent ⌝ }
+    ensures answers { λ r. ⌜ ((x : TermsAt Mode.pattern (drop p (now (b .entry)))) (y : TermsAt Mode.pattern (drop q (now (b .entry)))) → r ≡ patternsOverlap (x .terms) (y .terms)) ⌝ }
+    ensures keeps { λ _. ⌜ Searched (now (b .entry)) lent 0 (now (room .entry)) (now (room .exit)) ⌝ }
 {
-    sequence(first, second, OVERLAP_FUEL)
+    search::pair_overlap(b, p, q, NATIVE_DEPTH, 0, room, lent)
 }

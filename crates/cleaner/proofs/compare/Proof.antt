@@ -1,6 +1,8 @@
 -- `cleaner::compare` meets its contract. Assumes nothing.
 use denote.Ref.{now}
+use native.Mathlib.Omega.{arith}
 use Rattle.cleaner.proofs.Sentences.{pattern-part, compared, fuel-left}
+use Rattle.cleaner.proofs.Searching.{zero-remembers}
 use borrow.Author.Needs.{needs}
 use Rattle.cleaner.proofs.compare.Statement.{statement}
 use Rattle.cleaner.proofs.compare.Tie as tie
@@ -11,42 +13,27 @@ add-p c = search needs
 add-q : tie.Need-add-q
 add-q c = search needs
 
-sub-patterns-overlap : tie.Need-sub-patterns-overlap
-sub-patterns-overlap c = search needs
-
-part-patterns-overlap-start : tie.Need-part-patterns-overlap-start
-part-patterns-overlap-start c = search needs
-
-part-patterns-overlap-end : tie.Need-part-patterns-overlap-end
-part-patterns-overlap-end c = search needs
-
-sub-patterns-overlap-2 : tie.Need-sub-patterns-overlap-2
-sub-patterns-overlap-2 c = search needs
-
-part-patterns-overlap-start-2 : tie.Need-part-patterns-overlap-start-2
-part-patterns-overlap-start-2 c = search needs
-
-part-patterns-overlap-end-2 : tie.Need-part-patterns-overlap-end-2
-part-patterns-overlap-end-2 c = search needs
+slice-aggregate-patterns-overlap : tie.Need-slice-aggregate-patterns-overlap
+slice-aggregate-patterns-overlap c = search needs
 
 patterns-overlap-requires : tie.Need-patterns-overlap-requires
 patterns-overlap-requires c κs =
-    let x = c .before .before .before in
-    (pattern-part (now (x .args .b)) (x .args .i) (x .pre .0), pattern-part (now (x .args .b)) (x .args .j) (x .pre .1))
+    let x = c .before .before in
+    (pattern-part (now (x .args .b)) (x .args .i) (x .pre .0), pattern-part (now (x .args .b)) (x .args .j) (x .pre .1), x .pre .2, zero-remembers (now (x .args .b)) 6656 (record { frames = 5958; slots = 116 }) (omega arith))
 
 sub-spent : tie.Need-sub-spent
 sub-spent c =
     let x = c .before .before .before .before .before in
     let p = pattern-part (now (x .args .b)) (x .args .i) (x .pre .0) in
     let q = pattern-part (now (x .args .b)) (x .args .j) (x .pre .1) in
-    fuel-left (p .terms) (q .terms) (c .before .patterns-overlap .result) (c .before .patterns-overlap .ensures p q)
+    fuel-left (p .terms) (q .terms) (c .before .before .patterns-overlap .result) (c .before .before .patterns-overlap .ensures .0 p q)
 
 returns : tie.Need-returns
 returns c = λ x y.
     let a = c .before .before .before .before .before .args in
     let p = pattern-part (now (a .b)) (a .i) x in
     let q = pattern-part (now (a .b)) (a .j) y in
-    compared (p .terms) (q .terms) (c .before .patterns-overlap .result) (c .before .patterns-overlap .ensures p q)
+    compared (p .terms) (q .terms) (c .before .before .patterns-overlap .result) (c .before .before .patterns-overlap .ensures .0 p q)
 
 pub compare-spec : {M : Type 1} → statement M
 compare-spec =
@@ -54,12 +41,7 @@ compare-spec =
     (tie.spec
     add-p
     add-q
-    sub-patterns-overlap
-    part-patterns-overlap-start
-    part-patterns-overlap-end
-    sub-patterns-overlap-2
-    part-patterns-overlap-start-2
-    part-patterns-overlap-end-2
+    slice-aggregate-patterns-overlap
     patterns-overlap-requires
     sub-spent
     returns)

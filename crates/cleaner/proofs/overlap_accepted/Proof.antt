@@ -7,6 +7,7 @@ use lib.ListN.{length}
 use lib.Seq.{length-take-le}
 use Rattle.image.proofs.Loop.{bytes-of}
 use Rattle.image.proofs.Accepted.{accepted-long}
+use Rattle.cleaner.proofs.Start.{image-small}
 use Rattle.cleaner.proofs.Sentences.{functions-here, pattern-first, pattern-second, none-first, none-second, both-found}
 use borrow.Author.Needs.{needs}
 use Rattle.cleaner.proofs.overlap_accepted.Statement.{statement}
@@ -47,7 +48,7 @@ enum-known-q c = search needs
 
 compare-requires : tie.Need-compare-requires
 compare-requires c κs =
-    (pattern-first (now (c .before .before .before .before .before .before .before .before .before .before .before .args .img)) (c .before .before .before .before .before .before .before .before .before .functions-start .result) (c .before .before .before .before .before .before .before .before .before .before .before .args .first) (c .before .before .before .before .before .before .before .before .before .before .before .args .second) (bytes-of (now (c .before .before .before .before .before .before .before .before .before .before .before .args .img)) (λ i. omega (arith, c .before .before .before .before .before .before .before .before .before .before .shared-slice-known .given i))) (c .before .before .before .before .before .before .before .before .before .functions-start .ensures .1) (c .before .before .before .before .before .before .before .sentence-at .result) (c .before .before .before .before .before .before .sentence-at2 .result) (c .before .before .before .before .before .before .before .sentence-at .ensures) (c .before .before .before .before .before .before .sentence-at2 .ensures) (c .before .before .before .before .p .given .0 .0) (c .before .before .before .before .p .given .1) (c .before .before .before .before .before .before .before .before .before .before .before .pre), pattern-second (now (c .before .before .before .before .before .before .before .before .before .before .before .args .img)) (c .before .before .before .before .before .before .before .before .before .functions-start .result) (c .before .before .before .before .before .before .before .before .before .before .before .args .first) (c .before .before .before .before .before .before .before .before .before .before .before .args .second) (bytes-of (now (c .before .before .before .before .before .before .before .before .before .before .before .args .img)) (λ i. omega (arith, c .before .before .before .before .before .before .before .before .before .before .shared-slice-known .given i))) (c .before .before .before .before .before .before .before .before .before .functions-start .ensures .1) (c .before .before .before .before .before .before .before .sentence-at .result) (c .before .before .before .before .before .before .sentence-at2 .result) (c .before .before .before .before .before .before .before .sentence-at .ensures) (c .before .before .before .before .before .before .sentence-at2 .ensures) (c .before .q .given .0 .0) (c .before .q .given .1) (c .before .before .before .before .before .before .before .before .before .before .before .pre))
+    (pattern-first (now (c .before .before .before .before .before .before .before .before .before .before .before .args .img)) (c .before .before .before .before .before .before .before .before .before .functions-start .result) (c .before .before .before .before .before .before .before .before .before .before .before .args .first) (c .before .before .before .before .before .before .before .before .before .before .before .args .second) (bytes-of (now (c .before .before .before .before .before .before .before .before .before .before .before .args .img)) (λ i. omega (arith, c .before .before .before .before .before .before .before .before .before .before .shared-slice-known .given i))) (c .before .before .before .before .before .before .before .before .before .functions-start .ensures .1) (c .before .before .before .before .before .before .before .sentence-at .result) (c .before .before .before .before .before .before .sentence-at2 .result) (c .before .before .before .before .before .before .before .sentence-at .ensures) (c .before .before .before .before .before .before .sentence-at2 .ensures) (c .before .before .before .before .p .given .0 .0) (c .before .before .before .before .p .given .1) (c .before .before .before .before .before .before .before .before .before .before .before .pre), pattern-second (now (c .before .before .before .before .before .before .before .before .before .before .before .args .img)) (c .before .before .before .before .before .before .before .before .before .functions-start .result) (c .before .before .before .before .before .before .before .before .before .before .before .args .first) (c .before .before .before .before .before .before .before .before .before .before .before .args .second) (bytes-of (now (c .before .before .before .before .before .before .before .before .before .before .before .args .img)) (λ i. omega (arith, c .before .before .before .before .before .before .before .before .before .before .shared-slice-known .given i))) (c .before .before .before .before .before .before .before .before .before .functions-start .ensures .1) (c .before .before .before .before .before .before .before .sentence-at .result) (c .before .before .before .before .before .before .sentence-at2 .result) (c .before .before .before .before .before .before .before .sentence-at .ensures) (c .before .before .before .before .before .before .sentence-at2 .ensures) (c .before .q .given .0 .0) (c .before .q .given .1) (c .before .before .before .before .before .before .before .before .before .before .before .pre), omega (arith, image-small (now (c .before .before .before .before .before .before .before .before .before .before .before .args .img)) (bytes-of (now (c .before .before .before .before .before .before .before .before .before .before .before .args .img)) (λ i. omega (arith, c .before .before .before .before .before .before .before .before .before .before .shared-slice-known .given i))) (c .before .before .before .before .before .before .before .before .before .before .before .pre), length-take-le (length (now (c .before .before .before .before .before .before .before .before .before .before .before .args .img)) - 12) (now (c .before .before .before .before .before .before .before .before .before .before .before .args .img)) (omega arith)))
 
 returns : tie.Need-returns
 returns c = λ a. c .no-sentence .ensures ∙ none-first (now (c .before .before .before .before .before .before .before .before .args .img)) (c .before .before .before .before .before .before .functions-start .result) (c .before .before .before .before .before .before .before .before .args .first) (c .before .before .before .before .before .before .before .before .args .second) (bytes-of (now (c .before .before .before .before .before .before .before .before .args .img)) (λ i. omega (arith, c .before .before .before .before .before .before .before .shared-slice-known .given i))) (c .before .before .before .before .before .before .functions-start .ensures .1) (c .before .before .before .before .sentence-at .result) (c .before .before .before .sentence-at2 .result) (c .before .before .before .before .sentence-at .ensures) (c .before .before .before .sentence-at2 .ensures) (c .before .enum-told .given .1) a

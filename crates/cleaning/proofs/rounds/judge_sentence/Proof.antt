@@ -9,7 +9,7 @@ use Rattle.index.proofs.First.{element-below}
 use Rattle.cleaning.specs.History.{isThere}
 use Rattle.cleaning.specs.Indexed.{fellOf}
 use Rattle.cleaning.proofs.Judging.{judged-gone, judged-met, judged-unmet}
-use Rattle.cleaning.proofs.Witnesses.{none-written}
+use Rattle.cleaning.proofs.Room.{no-column}
 use borrow.Author.Needs.{needs}
 use Rattle.cleaning.proofs.rounds.judge_sentence.Statement.{statement}
 use Rattle.cleaning.proofs.rounds.judge_sentence.Tie as tie
@@ -19,7 +19,7 @@ keep s = isThere (fellOf (s .args .plan) (s .args .work .now)) (s .args .round)
 
 is-there-requires : tie.Need-is-there-requires
 is-there-requires c κs =
-    let p = c .before .before .before .pre in (
+    let p = c .before .before .before .pre .0 in (
       omega (arith, element-below (ownSentences (p .program .functions)) (c .before .before .before .args .s) (p .sentence) (p .owns .sentence), p .indexed .sentences),
       omega (arith, p .indexed .fits),
       p .indexed .small,
@@ -29,7 +29,7 @@ still-met-requires : tie.Need-still-met-requires
 still-met-requires c κs = c .before .before .before .before .before .before .pre
 
 same-length : tie.Need-same-length
-same-length c = c .before .before .before .still-met .ensures .1 .length
+same-length c = c .before .before .before .still-met .ensures .1 .0 .length
 
 returns : tie.Need-returns
 returns c =
@@ -40,7 +40,7 @@ returns c =
     )
 
 same-length-2 : tie.Need-same-length-2
-same-length-2 c = c .before .before .before .still-met .ensures .1 .length
+same-length-2 c = c .before .before .before .still-met .ensures .1 .0 .length
 
 returns-2 : tie.Need-returns-2
 returns-2 c =
@@ -57,7 +57,7 @@ returns-3 : tie.Need-returns-3
 returns-3 c =
     let a = c .before .before .before .before .before .args in (
       λ w x y d o q. judged-gone w (keep (c .before .before .before .before .before)) (a .work .now) (a .plan) x (a .s) y (a .before) (sym (c .before .is-there .ensures) ∙ c .if1 .left) q,
-      none-written (a .work .now) (witnesses (a .plan) + a .s),
+      (no-column (a .plan) (a .work .now) (witnesses (a .plan) + a .s), c .before .before .before .before .before .pre .2),
     )
 
 pub judge-sentence-spec : {M : Type 1} → statement M

@@ -12,7 +12,7 @@ use Rattle.image.specs.Limits.{Mode}
 use Rattle.image.specs.Parts.{TermsAt, Sentence, ownSentences}
 use Rattle.image.specs.Syntax.{Function, Program}
 use Rattle.index.specs.First.{First}
-use Rattle.index.specs.Layout.{heads, witnesses}
+use Rattle.index.specs.Layout.{heads, witnesses, room}
 use Rattle.index.specs.Links.{listHead}
 use Rattle.index.proofs.First.{element-below}
 use Rattle.cleaning.specs.Asked.{meets}
@@ -20,7 +20,8 @@ use Rattle.cleaning.specs.History.{isThere}
 use Rattle.cleaning.specs.Indexed.{sitesOf, Indexed, fellOf}
 use Rattle.cleaning.specs.Walks.{OnList, NoneMet, Owns, WitnessOf, witnessFrom, StillMet}
 use Rattle.cleaning.proofs.Meeting.{number-is, site-element, sentence-below}
-use Rattle.cleaning.proofs.Witnesses.{pattern-there, begins-at, none-left, witness-there, still-by, one-written, none-written}
+use Rattle.cleaning.proofs.Room.{used-same, remembering-set, one-column, no-column}
+use Rattle.cleaning.proofs.Witnesses.{pattern-there, begins-at, none-left, witness-there, still-by}
 use borrow.Author.Needs.{needs}
 use Rattle.cleaning.proofs.walks.still_met.Statement.{statement}
 use Rattle.cleaning.proofs.walks.still_met.Tie as tie
@@ -45,13 +46,17 @@ abbrev Seen : tie.Start → Program → Function → Sentence → Type 0
 Seen s w x y = WitnessOf (keep s) (x .name) (y .pattern) (sitesOf w) (witness s)
 
 own-below : (s : tie.Start) → s .args .s < s .args .plan .sentences
-own-below s = let p = s .pre in omega (arith, element-below (ownSentences (p .program .functions)) (s .args .s) (p .sentence) (p .owns .sentence), p .indexed .sentences)
+own-below s = let p = s .pre .0 in omega (arith, element-below (ownSentences (p .program .functions)) (s .args .s) (p .sentence) (p .owns .sentence), p .indexed .sentences)
 
 function-below : (s : tie.Start) → s .args .f < s .args .plan .functions
-function-below s = let p = s .pre in omega (arith, element-below (p .program .functions) (s .args .f) (p .function) (p .owns .function), p .indexed .functions)
+function-below s = let p = s .pre .0 in omega (arith, element-below (p .program .functions) (s .args .f) (p .function) (p .owns .function), p .indexed .functions)
 
 witness-within : (s : tie.Start) → (witnesses (s .args .plan) + s .args .s < length (s .args .work .now)) × (length (s .args .work .now) ≤ 8192)
-witness-within s = let d = s .pre .indexed in (omega (arith, d .fits, own-below s), d .small)
+witness-within s = let d = s .pre .0 .indexed in (omega (arith, d .fits, own-below s), d .small)
+
+-- The witness stands in a column.
+witness-column : (s : tie.Start) → witnesses (s .args .plan) + s .args .s < room (s .args .plan)
+witness-column s = omega (arith, own-below s)
 
 -- Where the search begins.
 begins : (c : tie.After-witness-of) (w : Program) (x : Function) (y : Sentence) → Given (c .before .before .before .before .before .before) w → Owned (c .before .before .before .before .before .before) w x y → Seen (c .before .before .before .before .before .before) w x y
@@ -69,12 +74,16 @@ pattern c w x y d o = pattern-there (d .sentence .entry ((c .before .before .bef
 found : (c : tie.After-meeting-from) (w : Program) (x : Function) (y : Sentence) → Given (c .before .before .before .before .before .before .before .before .before .before .before .before .before .before .before) w → Owned (c .before .before .before .before .before .before .before .before .before .before .before .before .before .before .before) w x y → Seen (c .before .before .before .before .before .before .before .before .before .before .before .before .before .before .before) w x y → First (meets (keep (c .before .before .before .before .before .before .before .before .before .before .before .before .before .before .before)) (x .name) (y .pattern)) 0 (sitesOf w) (c .meeting-from .result)
 found c w x y d o a =
     let i = begins (c .before .before .before .before .before .before .before .before .before) w x y d o a in
-    c .meeting-from .ensures w ((c .before .before .before .before .before .before .before .before .before .before .before .before .before .before .before) .args .f) x d (o .function) (i .0) (pattern (c .before .before) w x y d o) (i .1)
+    c .meeting-from .ensures .0 w ((c .before .before .before .before .before .before .before .before .before .before .before .before .before .before .before) .args .f) x d (o .function) (i .0) (pattern (c .before .before) w x y d o) (i .1)
 
 found-low : (c : tie.After-meeting-from) → c .meeting-from .result ≤ 32768
 found-low c =
-    let p = (c .before .before .before .before .before .before .before .before .before .before .before .before .before .before .before) .pre in
+    let p = (c .before .before .before .before .before .before .before .before .before .before .before .before .before .before .before) .pre .0 in
     omega (arith, found c (p .program) (p .function) (p .sentence) (p .indexed) (p .owns) (p .witnessed) .within, p .indexed .sites, p .indexed .fits, p .indexed .small)
+
+-- The witness is still within work when the walk has ended.
+after-within : (c : tie.After-meeting-from) → let s = (c .before .before .before .before .before .before .before .before .before .before .before .before .before .before .before) in witnesses (s .args .plan) + s .args .s < length (c .meeting-from .last .1 .0)
+after-within c = omega (arith, witness-within (c .before .before .before .before .before .before .before .before .before .before .before .before .before .before .before), c .meeting-from .ensures .1 .length)
 
 mul-k : tie.Need-mul-k
 mul-k c = omega (arith, witness-within (c .before .before .before))
@@ -86,13 +95,13 @@ add-k-2 : tie.Need-add-k-2
 add-k-2 c = omega (arith, witness-within (c .before .before .before .before))
 
 witness-of-requires : tie.Need-witness-of-requires
-witness-of-requires c κs = let s = (c .before .before .before .before .before) in (function-below s, own-below s, s .pre .indexed .fits, s .pre .indexed .small)
+witness-of-requires c κs = let s = (c .before .before .before .before .before) in (function-below s, own-below s, s .pre .0 .indexed .fits, s .pre .0 .indexed .small)
 
 cast-work : tie.Need-cast-work
-cast-work c = let d = (c .before .before .before .before .before .before .before .before .before) .pre .indexed in omega (arith, d .fits, d .small)
+cast-work c = let d = (c .before .before .before .before .before .before .before .before .before) .pre .0 .indexed in omega (arith, d .fits, d .small)
 
 add-work : tie.Need-add-work
-add-work c = let d = (c .before .before .before .before .before .before .before .before .before) .pre .indexed in omega (arith, d .fits, d .small)
+add-work c = let d = (c .before .before .before .before .before .before .before .before .before) .pre .0 .indexed in omega (arith, d .fits, d .small)
 
 mul-work : tie.Need-mul-work
 mul-work c = omega (arith, witness-within (c .before .before .before .before .before .before .before .before .before))
@@ -115,7 +124,7 @@ returns c =
           let z : n + 1 ≡ suc i = omega (arith, h, g .0 .within, d .sites) in
           still-by (keep s) (x .name) (y .pattern) (sitesOf w) i (none-left (keep s) (x .name) (y .pattern) (sitesOf w) i (g .0) (g .1) h)
           (getD (set (s .args .work .now) k (n + 1)) k 0) (getD-set-same (s .args .work .now) k (n + 1) 0 (witness-within s .0) ∙ z) false (sym (le-ltb i (length (sitesOf w)) h)),
-      one-written (s .args .work .now) k (n + 1),
+      (one-column (used-same (s .pre .2)) k (n + 1), remembering-set (s .args .b .now) (s .args .plan) (s .args .work .now) k (n + 1) (witness-column s) (s .pre .2)),
     )
 
 mul-if2 : tie.Need-mul-if2
@@ -127,7 +136,7 @@ slice-read-if2 c = witness-within (c .before .before .before .before .before .be
 site-there-requires : tie.Need-site-there-requires
 site-there-requires c κs =
     let s = (c .before .before .before .before .before .before .before .before .before .before .before) in
-    let p = s .pre in
+    let p = s .pre .0 in
     let h : (c .before .before .before .before .before) .witness-of .result < s .args .plan .sites = omega (arith, (c .before .before .before) .if1 .left) in
     (h, p .indexed .fits, p .indexed .small, sentence-below (p .indexed) (s .args .f) (p .function) (p .owns .function) ((c .before .before .before .before .before) .witness-of .result) h)
 
@@ -146,7 +155,7 @@ returns-2 c =
           let g = witness-there (keep s) (x .name) (y .pattern) (sitesOf w) (witness s) (head s) ((c .before .before .before) .if2 .taken) a (u .element) (ap (getElem? (sitesOf w)) (sym e) ∙ u .is) k in
           still-by (keep s) (x .name) (y .pattern) (sitesOf w) (witnessFrom (witness s) (head s)) (g .0) (witness s) (g .1) true
           (sym (lt-ltb (witnessFrom (witness s) (head s)) (length (sitesOf w)) (omega (arith, e, h, d .sites)))),
-      none-written (s .args .work .now) (witnesses (s .args .plan) + s .args .s),
+      (no-column (s .args .plan) (s .args .work .now) (witnesses (s .args .plan) + s .args .s), s .pre .2),
     )
 
 mul-place-of : tie.Need-mul-place-of
@@ -164,42 +173,48 @@ add-pattern c = search needs
 meeting-from-requires : tie.Need-meeting-from-requires
 meeting-from-requires c κs =
     let s = (c .before .before .before .before .before .before .before .before .before .before .before .before .before .before) in
-    let p = s .pre in
-    record {
-      program = p .program;
-      indexed = p .indexed;
-      place = s .args .f;
-      function = p .function;
-      is = p .owns .function;
-      listed = begins (c .before .before .before .before .before .before .before .before) (p .program) (p .function) (p .sentence) (p .indexed) (p .owns) (p .witnessed) .0;
-      reading = pattern (c .before) (p .program) (p .function) (p .sentence) (p .indexed) (p .owns);
-    }
+    let p = s .pre .0 in (
+      record {
+        program = p .program;
+        indexed = p .indexed;
+        place = s .args .f;
+        function = p .function;
+        is = p .owns .function;
+        listed = begins (c .before .before .before .before .before .before .before .before) (p .program) (p .function) (p .sentence) (p .indexed) (p .owns) (p .witnessed) .0;
+        reading = pattern (c .before) (p .program) (p .function) (p .sentence) (p .indexed) (p .owns);
+      },
+      s .pre .1,
+      s .pre .2,
+    )
 
 cast-work-2 : tie.Need-cast-work-2
-cast-work-2 c = omega (arith, found-low c)
+cast-work-2 c = omega (arith, found-low (c .before .before))
 
 add-work-2 : tie.Need-add-work-2
-add-work-2 c = omega (arith, found-low c)
+add-work-2 c = omega (arith, found-low (c .before .before))
 
 mul-work-2 : tie.Need-mul-work-2
-mul-work-2 c = omega (arith, witness-within (c .before .before .before .before .before .before .before .before .before .before .before .before .before .before .before))
+mul-work-2 c = omega (arith, witness-within (c .before .before .before .before .before .before .before .before .before .before .before .before .before .before .before .before .before))
 
 slice-write-work-2 : tie.Need-slice-write-work-2
-slice-write-work-2 c = witness-within (c .before .before .before .before .before .before .before .before .before .before .before .before .before .before .before) .0
+slice-write-work-2 c = after-within (c .before .before)
 
 same-length-3 : tie.Need-same-length-3
-same-length-3 c = search needs
+same-length-3 c =
+    let s = (c .before .before .before .before .before .before .before .before .before .before .before .before .before .before .before .before .before .before) in
+    one-column ((c .before .before .before) .meeting-from .ensures .1) (witnesses (s .args .plan) + s .args .s) ((c .before .before .before) .meeting-from .result + 1) .length
 
 returns-3 : tie.Need-returns-3
 returns-3 c =
-    let s = (c .before .before .before .before .before .before .before .before .before .before .before .before .before .before .before .before) in
+    let s = (c .before .before .before .before .before .before .before .before .before .before .before .before .before .before .before .before .before .before) in
     let k = witnesses (s .args .plan) + s .args .s in
-    let n = (c .before) .meeting-from .result in (
+    let g = (c .before .before .before) .meeting-from in
+    let n = g .result in (
       λ w x y d o a.
           let z : n + 1 ≡ suc n = omega arith in
-          still-by (keep s) (x .name) (y .pattern) (sitesOf w) n (found (c .before) w x y d o a)
-          (getD (set (s .args .work .now) k (n + 1)) k 0) (getD-set-same (s .args .work .now) k (n + 1) 0 (witness-within s .0) ∙ z) (ltb n (s .args .plan .sites)) (ap (ltb n) (sym (d .sites))),
-      one-written (s .args .work .now) k (n + 1),
+          still-by (keep s) (x .name) (y .pattern) (sitesOf w) n (found (c .before .before .before) w x y d o a)
+          (getD (set (g .last .1 .0) k (n + 1)) k 0) (getD-set-same (g .last .1 .0) k (n + 1) 0 (after-within (c .before .before .before)) ∙ z) (ltb n (s .args .plan .sites)) (ap (ltb n) (sym (d .sites))),
+      (one-column (g .ensures .1) k (n + 1), remembering-set (s .args .b .now) (s .args .plan) (g .last .1 .0) k (n + 1) (witness-column s) (g .ensures .1 .remembers)),
     )
 
 pub still-met-spec : {M : Type 1} → statement M

@@ -1,33 +1,38 @@
 -- `lines::uncovered::put_uncovered` meets its contract. Assumes nothing.
 use Prim.Native.Nat.{ℕ, _+_, _*_, _-_, _≤_}
 use native.Mathlib.Omega.{arith}
+use mathlib.Core.Path.{ap}
 use mathlib.Core.Bool.{Bool}
 use mathlib.Core.List.{[]}
 use Rattle.image.specs.Syntax.{Program}
+use Rattle.index.specs.Tables.{sentencesBefore}
 use Rattle.cleaning.specs.CleanReport.{sameUncovered}
 use Rattle.cleaning.specs.History.{isThere}
 use Rattle.cleaning.specs.Indexed.{sitesOf, fellOf}
+use Rattle.cleaning.specs.Room.{Used}
 use Rattle.cleaning.specs.ToldReport.{uncoveredTold}
+use Rattle.cleaning.proofs.Room.{used-same, used-then}
 use Rattle.report.specs.Report.{uncoveredLine}
 use Rattle.report.proofs.Fill.{emitted-length}
 use Rattle.lines.specs.Emitting.{Readable}
 use Rattle.lines.specs.Listing.{Listing}
 use Rattle.lines.specs.Uncovered.{lastUncovered}
 use Rattle.lines.proofs.Places.{function-of}
+use Rattle.lines.proofs.RoomUsed.{used-back, used-keep, used-readable, used-some}
 use Rattle.lines.proofs.Telling.{listing-from}
-use Rattle.lines.proofs.UncoveredLists.{last-none}
-use Rattle.lines.proofs.UncoveredLoops.{plain-none, OverFunctions, over-first, over-next, over-end}
+use Rattle.lines.proofs.UncoveredLists.{last-none, ofFunction}
+use Rattle.lines.proofs.UncoveredLoops.{plain-none, uncovered-same, OverFunctions, over-first, over-next, over-end}
 use Rattle.lines.proofs.uncovered.put_uncovered.Statement.{statement}
 use Rattle.lines.proofs.uncovered.put_uncovered.Tie as tie
 
 -- The functions before f are told.
 abbrev Inv-loop : tie.InvT-loop
-Inv-loop b work plan round out₀ at last₀ f₀ out last f =
-    ((w : Program) → Readable b w work plan → OverFunctions (isThere (fellOf plan work) round) w out₀ at (plan .sites) f out (last .at) (last .count) (last .function) (last .item))
-    × (last .at ≤ at + 655360000 * f) × (last .count ≤ last .at) × (last .function ≤ f) × (f ≤ plan .functions)
+Inv-loop b work₀ plan round out₀ at last₀ f₀ work out last f =
+    ((w : Program) → Readable b w work₀ plan → OverFunctions (isThere (fellOf plan work₀) round) w out₀ at (plan .sites) f out (last .at) (last .count) (last .function) (last .item))
+    × (last .at ≤ at + 655360000 * f) × (last .count ≤ last .at) × (last .function ≤ f) × (f ≤ plan .functions) × Used b plan work₀ work
 
 abbrev μ-loop : tie.MeasureT-loop
-μ-loop b work plan round out₀ at last₀ f₀ out last f = plan .functions - f
+μ-loop b work₀ plan round out₀ at last₀ f₀ work out last f = plan .functions - f
 
 abbrev keep : tie.Start Inv-loop μ-loop → ℕ → Bool
 keep s = isThere (fellOf (s .args .plan) (s .args .work .now)) (s .args .round)
@@ -36,36 +41,49 @@ abbrev Given : tie.Start Inv-loop μ-loop → Program → Type 0
 Given s w = Readable (s .args .b .now) w (s .args .work .now) (s .args .plan)
 
 loop-holds : tie.Need-loop-holds Inv-loop μ-loop
-loop-holds c = let s = (c .before .before .before) in (λ w d. over-first (keep s) w (s .args .out .now) (s .args .at) (s .args .plan .sites), omega arith, omega arith, omega arith, omega arith)
+loop-holds c = let s = (c .before .before .before) in (λ w d. over-first (keep s) w (s .args .out .now) (s .args .at) (s .args .plan .sites), omega arith, omega arith, omega arith, omega arith, used-same (s .pre .2))
 
 put-if-judged-requires : tie.Need-put-if-judged-requires Inv-loop μ-loop
 put-if-judged-requires c κs =
-    let s = (c .before .before .before .before .before .before .before) in
+    let s = (c .before .before .before .before .before .before .before .before) in
     let d = s .pre .0 .readable .indexed in
-    let i = c .before .before .before .loop .inv in
-    (s .pre .0, c .before .if1 .taken, i .3, λ w q. i .0 w q .told .plain (plain-none w 0 (s .args .plan .sites) (omega (arith, q .indexed .sites))), omega (arith, i .1, c .before .if1 .taken, d .fits, d .small, s .pre .1), i .2)
+    let i = c .before .before .before .before .loop .inv in (
+      used-some (i .5) (s .pre .0),
+      c .before .before .if1 .taken,
+      i .3,
+      λ w q. i .0 w (used-readable (used-back (s .pre .2) (i .5)) q) .told .plain (plain-none w 0 (s .args .plan .sites) (omega (arith, q .indexed .sites))),
+      omega (arith, i .1, c .before .before .if1 .taken, d .fits, d .small, s .pre .1),
+      i .2,
+      i .5 .remembers,
+    )
 
 add-f : tie.Need-add-f Inv-loop μ-loop
-add-f c = let d = c .before .before .before .before .before .before .before .before .before .before .pre .0 .readable .indexed in omega (arith, c .before .before .before .before .if1 .taken, d .fits, d .small)
+add-f c = let d = c .before .before .before .before .before .before .before .before .before .before .before .before .before .pre .0 .readable .indexed in omega (arith, c .before .before .before .before .before .before .before .if1 .taken, d .fits, d .small)
 
 loop-less : tie.Need-loop-less Inv-loop μ-loop
-loop-less c = omega (arith, c .before .before .before .before .if1 .taken)
+loop-less c = omega (arith, c .before .before .before .before .before .before .before .if1 .taken)
 
 loop-again : tie.Need-loop-again Inv-loop μ-loop
 loop-again c =
-    let s = (c .before .before .before .before .before .before .before .before .before .before) in
-    let p = c .before .before .put-if-judged in (
+    let s = (c .before .before .before .before .before .before .before .before .before .before .before .before .before) in
+    let i = c .before .before .before .before .before .before .before .before .before .loop .inv in
+    let p = c .before .before .before .before .put-if-judged in (
       λ w d.
-          let x = function-of d (c .before .before .before .before .before .before .loop .f) (c .before .before .before .before .if1 .taken) in
-          over-next (keep s) w (s .args .out .now) (s .args .at) (s .args .plan .sites) (c .before .before .before .before .before .before .loop .inv .0 w d) (x .element) (x .is) (p .ensures .0 w (x .element) d (x .is)),
-      omega (arith, p .ensures .1 .0, c .before .before .before .before .before .before .loop .inv .1),
-      p .ensures .1 .1,
-      omega (arith, p .ensures .1 .2),
-      omega (arith, c .before .before .before .before .if1 .taken),
+          let x = function-of d (c .before .before .before .before .before .before .before .before .before .loop .f) (c .before .before .before .before .before .before .before .if1 .taken) in
+          over-next (keep s) w (s .args .out .now) (s .args .at) (s .args .plan .sites) (i .0 w d) (x .element) (x .is)
+          (uncovered-same (ap (λ (k : ℕ → Bool). ofFunction k (sitesOf w) (λ (n : ℕ). sentencesBefore n (w .functions)) (c .before .before .before .before .before .before .before .before .before .loop .f) (x .element)) (used-keep (i .5) (s .args .round))) (p .ensures .0 w (x .element) (used-readable (i .5) d) (x .is))),
+      omega (arith, p .ensures .1 .0 .0, i .1),
+      p .ensures .1 .0 .1,
+      omega (arith, p .ensures .1 .0 .2),
+      omega (arith, c .before .before .before .before .before .before .before .if1 .taken),
+      used-then (i .5) (p .ensures .1 .1),
     )
 
 same-length : tie.Need-same-length Inv-loop μ-loop
-same-length c = let s = (c .before .before .before .before .before .before) in emitted-length (c .before .before .loop .inv .0 (s .pre .0 .program) (s .pre .0 .readable) .told .listing .text)
+same-length c = c .before .before .loop .inv .5 .length
+
+same-length-2 : tie.Need-same-length-2 Inv-loop μ-loop
+same-length-2 c = let s = (c .before .before .before .before .before .before) in emitted-length (c .before .before .loop .inv .0 (s .pre .0 .program) (s .pre .0 .readable) .told .listing .text)
 
 -- What is told in the end, after nothing.
 whole : (c : tie.At-loop Inv-loop μ-loop) (w : Program) → let s = (c .before .before .before .before) in (d : Given s w) → s .args .plan .functions ≤ c .loop .f
@@ -80,7 +98,10 @@ returns c =
     let s = (c .before .before .before .before .before .before) in
     let d = s .pre .0 .readable .indexed in (
       λ w q. whole (c .before .before) w q (c .if1 .left) .text,
-      (λ w q. omega (arith, whole (c .before .before) w q (c .if1 .left) .told), omega (arith, c .before .before .loop .inv .1, c .before .before .loop .inv .4, d .fits, d .small)),
+      (
+        λ w q. omega (arith, whole (c .before .before) w q (c .if1 .left) .told),
+        (omega (arith, c .before .before .loop .inv .1, c .before .before .loop .inv .4, d .fits, d .small), c .before .before .loop .inv .5),
+      ),
     )
 
 pub put-uncovered-spec : {M : Type 1} → statement M
@@ -95,4 +116,5 @@ put-uncovered-spec =
     loop-less
     loop-again
     same-length
+    same-length-2
     returns)

@@ -1,6 +1,7 @@
 -- `lines::undecided::put_undecided` meets its contract. Assumes nothing.
 use Prim.Native.Nat.{ℕ, suc, _-_, _≤_}
 use native.Mathlib.Omega.{arith}
+use mathlib.Core.Path.{ap}
 use mathlib.Core.Bool.{Bool}
 use mathlib.Core.List.{[]}
 use Rattle.image.specs.Syntax.{Program}
@@ -9,28 +10,31 @@ use Rattle.index.specs.Tables.{sentencesBefore}
 use Rattle.cleaning.specs.CleanReport.{sameUndecided}
 use Rattle.cleaning.specs.History.{isThere}
 use Rattle.cleaning.specs.Indexed.{sitesOf, fellOf}
+use Rattle.cleaning.specs.Room.{Used}
 use Rattle.cleaning.specs.ToldReport.{undecidedTold}
 use Rattle.cleaning.proofs.Owned.{before-most}
+use Rattle.cleaning.proofs.Room.{used-same, used-then}
 use Rattle.report.specs.Report.{undecidedLine}
 use Rattle.report.proofs.Fill.{emitted-length}
 use Rattle.lines.specs.Emitting.{Readable}
 use Rattle.lines.specs.Listing.{Listing}
 use Rattle.lines.specs.Undecided.{lastUndecided}
 use Rattle.lines.proofs.Places.{function-of}
-use Rattle.lines.proofs.Telling.{listing-from}
-use Rattle.lines.proofs.UndecidedLists.{last-none}
+use Rattle.lines.proofs.RoomUsed.{used-back, used-keep, used-readable, used-some}
+use Rattle.lines.proofs.Telling.{listing-from, listing-same}
+use Rattle.lines.proofs.UndecidedLists.{last-none, ofFunction}
 use Rattle.lines.proofs.UndecidedLoops.{OverFunctions, over-first, over-next, over-end}
 use Rattle.lines.proofs.undecided.put_undecided.Statement.{statement}
 use Rattle.lines.proofs.undecided.put_undecided.Tie as tie
 
 -- The functions before f are told.
 abbrev Inv-loop : tie.InvT-loop
-Inv-loop b work plan round out₀ at last₀ f₀ out last f =
-    ((w : Program) → Readable b w work plan → OverFunctions (isThere (fellOf plan work) round) w out₀ at (plan .sentences) f out (last .at) (last .count) (last .function) (last .item))
-    × (last .count ≤ last .at) × (last .function ≤ f)
+Inv-loop b work₀ plan round out₀ at last₀ f₀ work out last f =
+    ((w : Program) → Readable b w work₀ plan → OverFunctions (isThere (fellOf plan work₀) round) w out₀ at (plan .sentences) f out (last .at) (last .count) (last .function) (last .item))
+    × (last .count ≤ last .at) × (last .function ≤ f) × Used b plan work₀ work
 
 abbrev μ-loop : tie.MeasureT-loop
-μ-loop b work plan round out₀ at last₀ f₀ out last f = plan .functions - f
+μ-loop b work₀ plan round out₀ at last₀ f₀ work out last f = plan .functions - f
 
 abbrev keep : tie.Start Inv-loop μ-loop → ℕ → Bool
 keep s = isThere (fellOf (s .args .plan) (s .args .work .now)) (s .args .round)
@@ -42,33 +46,47 @@ few : (s : tie.Start Inv-loop μ-loop) (w : Program) → Given s w → (f : ℕ)
 few s w d f = omega (arith, before-most (w .functions) f, own-counted (w .functions), d .indexed .sentences, d .indexed .fits, d .indexed .small)
 
 loop-holds : tie.Need-loop-holds Inv-loop μ-loop
-loop-holds c = let s = (c .before .before .before) in (λ w d. over-first (keep s) w (s .args .out .now) (s .args .at) (s .args .plan .sentences), omega arith, omega arith)
+loop-holds c = let s = (c .before .before .before) in (λ w d. over-first (keep s) w (s .args .out .now) (s .args .at) (s .args .plan .sentences), omega arith, omega arith, used-same (s .pre .2))
 
 put-if-judged-requires : tie.Need-put-if-judged-requires Inv-loop μ-loop
 put-if-judged-requires c κs =
-    let s = (c .before .before .before .before .before .before .before) in
-    let f = c .before .before .before .loop .f in
-    (s .pre .0, c .before .if1 .taken, c .before .before .before .loop .inv .2, λ w d. omega (arith, c .before .before .before .loop .inv .0 w d .short, few s w d (suc f), s .pre .1), c .before .before .before .loop .inv .1)
+    let s = (c .before .before .before .before .before .before .before .before) in
+    let f = c .before .before .before .before .loop .f in
+    let h = c .before .before .before .before .loop .inv in (
+      used-some (h .3) (s .pre .0),
+      c .before .before .if1 .taken,
+      h .2,
+      λ w d. let e = used-readable (used-back (s .pre .2) (h .3)) d in omega (arith, h .0 w e .short, few s w e (suc f), s .pre .1),
+      h .1,
+      h .3 .remembers,
+    )
 
 add-f : tie.Need-add-f Inv-loop μ-loop
-add-f c = let d = c .before .before .before .before .before .before .before .before .before .before .pre .0 .readable .indexed in omega (arith, c .before .before .before .before .if1 .taken, d .fits, d .small)
+add-f c = let d = c .before .before .before .before .before .before .before .before .before .before .before .before .before .pre .0 .readable .indexed in omega (arith, c .before .before .before .before .before .before .before .if1 .taken, d .fits, d .small)
 
 loop-less : tie.Need-loop-less Inv-loop μ-loop
-loop-less c = omega (arith, c .before .before .before .before .if1 .taken)
+loop-less c = omega (arith, c .before .before .before .before .before .before .before .if1 .taken)
 
 loop-again : tie.Need-loop-again Inv-loop μ-loop
 loop-again c =
-    let s = (c .before .before .before .before .before .before .before .before .before .before) in
-    let p = c .before .before .put-if-judged in (
+    let s = (c .before .before .before .before .before .before .before .before .before .before .before .before .before) in
+    let u = c .before .before .before .before .before .before .before .before .before .loop .inv .3 in
+    let p = c .before .before .before .before .put-if-judged in (
       λ w d.
-          let x = function-of d (c .before .before .before .before .before .before .loop .f) (c .before .before .before .before .if1 .taken) in
-          over-next (keep s) w (s .args .out .now) (s .args .at) (s .args .plan .sentences) (c .before .before .before .before .before .before .loop .inv .0 w d) (x .element) (x .is) (p .ensures .0 w (x .element) d (x .is)) (p .ensures .1 .0 w d),
-      p .ensures .1 .1,
-      omega (arith, p .ensures .1 .2),
+          let x = function-of d (c .before .before .before .before .before .before .before .before .before .loop .f) (c .before .before .before .before .before .before .before .if1 .taken) in
+          over-next (keep s) w (s .args .out .now) (s .args .at) (s .args .plan .sentences) (c .before .before .before .before .before .before .before .before .before .loop .inv .0 w d) (x .element) (x .is)
+          (listing-same undecidedLine sameUndecided (ap (λ (k : ℕ → Bool). ofFunction k (sitesOf w) (λ (n : ℕ). sentencesBefore n (w .functions)) (c .before .before .before .before .before .before .before .before .before .loop .f) (x .element)) (used-keep u (s .args .round))) (p .ensures .0 w (x .element) (used-readable u d) (x .is)))
+          (p .ensures .1 .0 .0 w (used-readable u d)),
+      p .ensures .1 .0 .1,
+      omega (arith, p .ensures .1 .0 .2),
+      used-then u (p .ensures .1 .1),
     )
 
 same-length : tie.Need-same-length Inv-loop μ-loop
-same-length c = let s = (c .before .before .before .before .before .before) in emitted-length (c .before .before .loop .inv .0 (s .pre .0 .program) (s .pre .0 .readable) .told .text)
+same-length c = c .before .before .loop .inv .3 .length
+
+same-length-2 : tie.Need-same-length-2 Inv-loop μ-loop
+same-length-2 c = let s = (c .before .before .before .before .before .before) in emitted-length (c .before .before .loop .inv .0 (s .pre .0 .program) (s .pre .0 .readable) .told .text)
 
 -- What is told in the end, after nothing.
 whole : (c : tie.At-loop Inv-loop μ-loop) (w : Program) → let s = (c .before .before .before .before) in (d : Given s w) → s .args .plan .functions ≤ c .loop .f
@@ -83,7 +101,10 @@ returns c =
     let s = (c .before .before .before .before .before .before) in
     let p = s .pre .0 in (
       λ w d. whole (c .before .before) w d (c .if1 .left) .text,
-      (λ w d. omega (arith, whole (c .before .before) w d (c .if1 .left) .told), omega (arith, c .before .before .loop .inv .0 (p .program) (p .readable) .short, few s (p .program) (p .readable) (c .before .before .loop .f))),
+      (
+        λ w d. omega (arith, whole (c .before .before) w d (c .if1 .left) .told),
+        (omega (arith, c .before .before .loop .inv .0 (p .program) (p .readable) .short, few s (p .program) (p .readable) (c .before .before .loop .f)), c .before .before .loop .inv .3),
+      ),
     )
 
 pub put-undecided-spec : {M : Type 1} → statement M
@@ -98,4 +119,5 @@ put-undecided-spec =
     loop-less
     loop-again
     same-length
+    same-length-2
     returns)

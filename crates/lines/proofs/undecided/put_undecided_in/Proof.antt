@@ -9,24 +9,31 @@ use Rattle.image.specs.Syntax.{Function, Program}
 use Rattle.restrictions.proofs.Numbered.{own-counted}
 use Rattle.index.specs.Tables.{sentencesBefore}
 use Rattle.index.proofs.First.{Element}
+use Rattle.cleaning.specs.CleanReport.{sameUndecided}
 use Rattle.cleaning.specs.History.{isThere}
-use Rattle.cleaning.specs.Indexed.{fellOf, SomeBody}
+use Rattle.cleaning.specs.Indexed.{sitesOf, fellOf, SomeBody}
+use Rattle.cleaning.specs.Room.{Used}
 use Rattle.cleaning.proofs.Owned.{before-most}
+use Rattle.cleaning.proofs.Room.{used-same, used-then}
+use Rattle.report.specs.Report.{undecidedLine}
 use Rattle.report.proofs.Fill.{emitted-length}
 use Rattle.lines.specs.Emitting.{Readable}
+use Rattle.lines.specs.Undecided.{undecidedAt}
 use Rattle.lines.proofs.Places.{function-of, sentence-of}
+use Rattle.lines.proofs.RoomUsed.{used-keep, used-readable, used-some}
+use Rattle.lines.proofs.Telling.{listing-same}
 use Rattle.lines.proofs.UndecidedLoops.{InFunction, in-first, in-next, in-end}
 use Rattle.lines.proofs.undecided.put_undecided_in.Statement.{statement}
 use Rattle.lines.proofs.undecided.put_undecided_in.Tie as tie
 
 -- The sentences before s are told.
 abbrev Inv-loop : tie.InvT-loop
-Inv-loop b work plan f round out₀ end s₀ last₀ out s last =
-    ((w : Program) (x : Function) → Readable b w work plan → getElem? (w .functions) f ≡ some x → InFunction (isThere (fellOf plan work) round) w f x out₀ (last₀ .at) (last₀ .count) (last₀ .function) (last₀ .item) s out (last .at) (last .count) (last .function) (last .item))
-    × (last .count ≤ last .at) × (last .function ≤ f)
+Inv-loop b work₀ plan f round out₀ end s₀ last₀ work out s last =
+    ((w : Program) (x : Function) → Readable b w work₀ plan → getElem? (w .functions) f ≡ some x → InFunction (isThere (fellOf plan work₀) round) w f x out₀ (last₀ .at) (last₀ .count) (last₀ .function) (last₀ .item) s out (last .at) (last .count) (last .function) (last .item))
+    × (last .count ≤ last .at) × (last .function ≤ f) × Used b plan work₀ work
 
 abbrev μ-loop : tie.MeasureT-loop
-μ-loop b work plan f round out₀ end s₀ last₀ out s last = end - s
+μ-loop b work₀ plan f round out₀ end s₀ last₀ work out s last = end - s
 
 abbrev keep : tie.Start Inv-loop μ-loop → ℕ → Bool
 keep s = isThere (fellOf (s .args .plan) (s .args .work .now)) (s .args .round)
@@ -40,76 +47,87 @@ body s = record { body = s .args .b .now; program = s .pre .0 .program; indexed 
 abbrev the-function : (s : tie.Start Inv-loop μ-loop) → Element (s .pre .0 .program .functions) (s .args .f)
 the-function s = function-of (s .pre .0 .readable) (s .args .f) (s .pre .1)
 
-end-is : (c : tie.After-first-sentence Inv-loop μ-loop) (w : Program) → Given (c .before .before .before .before) w → c .first-sentence .result ≡ sentencesBefore (suc (c .before .before .before .before .args .f)) (w .functions)
-end-is c w d = let z : (c .before .before .before .before) .args .f + 1 ≡ suc (c .before .before .before .before .args .f) = omega arith in c .first-sentence .ensures (c .before .before .before .before .args .b .now) w (d .indexed) ∙ ap (λ (k : ℕ). sentencesBefore k (w .functions)) z
+end-is : (c : tie.After-first-sentence Inv-loop μ-loop) (w : Program) → Given (c .before .before .before .before .before) w → c .first-sentence .result ≡ sentencesBefore (suc (c .before .before .before .before .before .args .f)) (w .functions)
+end-is c w d = let z : (c .before .before .before .before .before) .args .f + 1 ≡ suc (c .before .before .before .before .before .args .f) = omega arith in c .first-sentence .ensures (c .before .before .before .before .before .args .b .now) w (d .indexed) ∙ ap (λ (k : ℕ). sentencesBefore k (w .functions)) z
 
 -- Before the end of the function there is a sentence.
-sentence-below : (h : tie.At-loop Inv-loop μ-loop) → let s = h .before .before .before .before .before .before in h .loop .s < h .before .before .first-sentence .result → h .loop .s < s .args .plan .sentences
+sentence-below : (h : tie.At-loop Inv-loop μ-loop) → let s = h .before .before .before .before .before .before .before .before in h .loop .s < h .before .before .before .first-sentence .result → h .loop .s < s .args .plan .sentences
 sentence-below h l =
-    let s = h .before .before .before .before .before .before in
+    let s = h .before .before .before .before .before .before .before .before in
     let w = s .pre .0 .program in
     let d = s .pre .0 .readable in
-    omega (arith, end-is (h .before .before) w d, before-most (w .functions) (suc (s .args .f)), own-counted (w .functions), d .indexed .sentences)
+    omega (arith, end-is (h .before .before .before) w d, before-most (w .functions) (suc (s .args .f)), own-counted (w .functions), d .indexed .sentences)
 
 add-first-sentence : tie.Need-add-first-sentence Inv-loop μ-loop
-add-first-sentence c = let d = c .before .before .before .pre .0 .readable .indexed in omega (arith, c .before .before .before .pre .1, d .fits, d .small)
+add-first-sentence c = let d = c .before .before .before .before .pre .0 .readable .indexed in omega (arith, c .before .before .before .before .pre .1, d .fits, d .small)
 
 first-sentence-requires : tie.Need-first-sentence-requires Inv-loop μ-loop
-first-sentence-requires c κs = (body (c .before .before .before), omega (arith, c .before .before .before .pre .1))
+first-sentence-requires c κs = (body (c .before .before .before .before), omega (arith, c .before .before .before .before .pre .1))
 
 first-sentence-requires-2 : tie.Need-first-sentence-requires-2 Inv-loop μ-loop
-first-sentence-requires-2 c κs = (body (c .before .before .before .before), omega (arith, c .before .before .before .before .pre .1))
+first-sentence-requires-2 c κs = (body (c .before .before .before .before .before .before), omega (arith, c .before .before .before .before .before .before .pre .1))
 
 loop-holds : tie.Need-loop-holds Inv-loop μ-loop
 loop-holds c =
-    let s = (c .before .before .before .before .before) in
+    let s = (c .before .before .before .before .before .before .before) in
     let l = s .args .listed in
-    (λ w x d e. in-first (keep s) w (s .args .f) x e (c .first-sentence2 .result) (c .first-sentence2 .ensures (s .args .b .now) w (d .indexed)) (s .args .out .now) (l .at) (l .count) (l .function) (l .item), s .pre .4, s .pre .2)
+    (λ w x d e. in-first (keep s) w (s .args .f) x e (c .first-sentence2 .result) (c .first-sentence2 .ensures (s .args .b .now) w (d .indexed)) (s .args .out .now) (l .at) (l .count) (l .function) (l .item), s .pre .4, s .pre .2, used-same (s .pre .5))
 
 put-if-undecided-requires : tie.Need-put-if-undecided-requires Inv-loop μ-loop
 put-if-undecided-requires c κs =
-    let s = (c .before .before .before .before .before .before .before .before) in
+    let s = (c .before .before .before .before .before .before .before .before .before .before .before) in
     let x = the-function s in
     let w = s .pre .0 .program in
     let d = s .pre .0 .readable in
-    let i = c .before .before .loop .inv .0 w (x .element) d (x .is) in
-    (s .pre .0, s .pre .1, sentence-below (c .before .before) (c .before .loop-test .taken), c .before .before .loop .inv .2, omega (arith, i .short, i .from, s .pre .3 w d, end-is (c .before .before .before .before) w d, c .before .loop-test .taken), c .before .before .loop .inv .1)
+    let h = c .before .before .before .loop .inv in
+    let i = h .0 w (x .element) d (x .is) in
+    (used-some (h .3) (s .pre .0), s .pre .1, sentence-below (c .before .before .before) (c .before .before .loop-test .taken), h .2, omega (arith, i .short, i .from, s .pre .3 w d, end-is (c .before .before .before .before .before .before) w d, c .before .before .loop-test .taken), h .1, h .3 .remembers)
 
 add-s : tie.Need-add-s Inv-loop μ-loop
-add-s c = let d = c .before .before .before .before .before .before .before .before .before .before .before .pre .0 .readable .indexed in omega (arith, sentence-below (c .before .before .before .before .before) (c .before .before .before .before .loop-test .taken), d .fits, d .small)
+add-s c = let d = c .before .before .before .before .before .before .before .before .before .before .before .before .before .before .before .before .pre .0 .readable .indexed in omega (arith, sentence-below (c .before .before .before .before .before .before .before .before) (c .before .before .before .before .before .before .before .loop-test .taken), d .fits, d .small)
 
 loop-less : tie.Need-loop-less Inv-loop μ-loop
-loop-less c = omega (arith, c .before .before .before .before .loop-test .taken)
+loop-less c = omega (arith, c .before .before .before .before .before .before .before .loop-test .taken)
 
 loop-again : tie.Need-loop-again Inv-loop μ-loop
 loop-again c =
-    let s = (c .before .before .before .before .before .before .before .before .before .before .before) in
-    let p = c .before .before .put-if-undecided in
-    let t = c .before .before .before .before .loop-test .taken in (
+    let s = (c .before .before .before .before .before .before .before .before .before .before .before .before .before .before .before .before) in
+    let p = c .before .before .before .before .put-if-undecided in
+    let u = c .before .before .before .before .before .before .before .before .loop .inv .3 in
+    let t = c .before .before .before .before .before .before .before .loop-test .taken in (
       λ w x d e.
-          let y = sentence-of d (c .before .before .before .before .before .loop .s) (sentence-below (c .before .before .before .before .before) t) in
-          in-next (keep s) w (s .args .f) x e (c .before .before .before .before .before .loop .inv .0 w x d e) (y .element) (y .is) (omega (arith, t, end-is (c .before .before .before .before .before .before .before) w d)) (p .ensures .0 w x (y .element) d e (y .is)) (p .ensures .1 .0),
-      p .ensures .1 .1,
-      p .ensures .1 .2,
+          let y = sentence-of d (c .before .before .before .before .before .before .before .before .loop .s) (sentence-below (c .before .before .before .before .before .before .before .before) t) in
+          in-next (keep s) w (s .args .f) x e (c .before .before .before .before .before .before .before .before .loop .inv .0 w x d e) (y .element) (y .is) (omega (arith, t, end-is (c .before .before .before .before .before .before .before .before .before .before .before) w d))
+          (listing-same undecidedLine sameUndecided (ap (λ (k : ℕ → Bool). undecidedAt k (sitesOf w) x (c .before .before .before .before .before .before .before .before .loop .s) (y .element)) (used-keep u (s .args .round))) (p .ensures .0 w x (y .element) (used-readable u d) e (y .is))) (p .ensures .1 .0 .0),
+      p .ensures .1 .0 .1,
+      p .ensures .1 .0 .2,
+      used-then u (p .ensures .1 .1),
     )
 
 same-length : tie.Need-same-length Inv-loop μ-loop
-same-length c =
-    let s = (c .before .before .before .before .before .before .before) in
+same-length c = c .before .loop .inv .3 .length
+
+same-length-2 : tie.Need-same-length-2 Inv-loop μ-loop
+same-length-2 c =
+    let s = (c .before .before .before .before .before .before .before .before .before) in
     let x = the-function s in
     emitted-length (c .before .loop .inv .0 (s .pre .0 .program) (x .element) (s .pre .0 .readable) (x .is) .told .text)
 
 returns : tie.Need-returns Inv-loop μ-loop
 returns c =
-    let s = (c .before .before .before .before .before .before .before) in (
-      λ w x d e. in-end (keep s) w (s .args .f) x e (c .before .loop .inv .0 w x d e) (omega (arith, c .loop-test .left, end-is (c .before .before .before) w d)),
+    let s = (c .before .before .before .before .before .before .before .before .before) in
+    let h = c .before .loop .inv in (
+      λ w x d e. in-end (keep s) w (s .args .f) x e (h .0 w x d e) (omega (arith, c .loop-test .left, end-is (c .before .before .before .before) w d)),
       (
-        λ w d.
-            let x = function-of d (s .args .f) (s .pre .1) in
-            let i = c .before .loop .inv .0 w (x .element) d (x .is) in
-            omega (arith, i .short, i .upto),
-        (c .before) .loop .inv .1,
-        (c .before) .loop .inv .2,
+        (
+          λ w d.
+              let x = function-of d (s .args .f) (s .pre .1) in
+              let i = h .0 w (x .element) d (x .is) in
+              omega (arith, i .short, i .upto),
+          h .1,
+          h .2,
+        ),
+        h .3,
       ),
     )
 
@@ -128,4 +146,5 @@ put-undecided-in-spec =
     loop-less
     loop-again
     same-length
+    same-length-2
     returns)

@@ -1,0 +1,26 @@
+-- `overlap::search::recalled` meets its contract.
+use Prim.Native.Nat.{_-_, _/_}
+use mathlib.Core.Path.{ap}
+use borrow.Author.Needs.{needs}
+use borrow.Author.Tests.{lt-ltb, le-ltb}
+use Rattle.overlap.specs.declared.Verdict.{Verdict}
+use Rattle.overlap.specs.Search.{found}
+use Rattle.overlap.specs.Memory.{costing}
+use Rattle.overlap.proofs.search.recalled.Statement.{statement}
+use Rattle.overlap.proofs.search.recalled.Tie as tie
+
+returns : tie.Need-returns
+unfolding costing
+returns c v e = let a = c .before .args in rw (lt-ltb (a .fuel) (a .known / 4) (c .if1 .taken))
+
+verdict-of-requires : tie.Need-verdict-of-requires
+verdict-of-requires c κs = search needs
+
+returns-2 : tie.Need-returns-2
+unfolding costing
+returns-2 c v e =
+    let a = c .before .before .args in
+    rw (le-ltb (a .fuel) (a .known / 4) (c .before .if1 .left)) (ap (λ (w : Verdict). found w (a .fuel - a .known / 4)) (c .verdict-of .ensures v e))
+
+pub recalled-spec : {M : Type 1} → statement M
+recalled-spec = tie.close (tie.spec returns verdict-of-requires returns-2)

@@ -1,0 +1,17 @@
+-- `overlap::stack::so_far_of` meets its contract.
+use Prim.Native.Nat.{_%_}
+use mathlib.Core.Path.{sym, ap}
+use mathlib.Core.Bool.{Bool, cond}
+use borrow.Author.Tests.{eq-eqb, ne-eqb}
+use Rattle.overlap.specs.declared.Verdict.the-variants.{Disjoint, Unknown}
+use Rattle.overlap.proofs.stack.so_far_of.Statement.{statement}
+use Rattle.overlap.proofs.stack.so_far_of.Tie as tie
+
+returns : tie.Need-returns
+returns c = sym (ap (λ (t : Bool). cond t Unknown Disjoint) (eq-eqb (c .before .args .split % 2) 1 (c .if1 .taken)))
+
+returns-2 : tie.Need-returns-2
+returns-2 c = sym (ap (λ (t : Bool). cond t Unknown Disjoint) (ne-eqb (c .before .args .split % 2) 1 (c .if1 .left)))
+
+pub so-far-of-spec : {M : Type 1} → statement M
+so-far-of-spec = tie.close (tie.spec returns returns-2)

@@ -1,0 +1,252 @@
+-- `overlap::stack::unwind` meets its contract: at the loop's head the entries are still those of the start.
+use Prim.Native.Nat.{ℕ, suc, _-_, _<_, _≤_}
+use native.Mathlib.Omega.{arith}
+use mathlib.Core.Path.{_≡_, refl, sym, ap, ap₂, _∙_, subst}
+use mathlib.Core.Bool.{true, false}
+use mathlib.Core.List.{List}
+use mathlib.Core.Logic.{_⊎_, inl, inr, ⊎-elim}
+use lib.ListN.{length, getD, drop, set, length-set}
+use lib.Seq.{getD-set-same, getD-set-other}
+use borrow.Author.Tests.{not-true, not-false}
+use Rattle.image.specs.Limits.{Mode}
+use Rattle.image.specs.Encode.{putTerms}
+use Rattle.image.specs.Parts.{Passes, TermsAt, tail}
+use Rattle.overlap.specs.declared.Verdict.{Verdict}
+use Rattle.overlap.specs.declared.Found.{Found}
+use Rattle.overlap.specs.Search.{found}
+use Rattle.overlap.specs.Steps.{isOverlap, remembered, behindVerdict, endedBy}
+use Rattle.overlap.specs.Memory.{Lends, Searched}
+use Rattle.overlap.specs.Stack.{restOf, otherOf, headsOf, soFarOf, Plugs, InTurn}
+use Rattle.overlap.proofs.Readings.{inside}
+use Rattle.overlap.proofs.Memory.{lends-less, searched-same, searched-then, searched-less, entry-written}
+use Rattle.overlap.proofs.Plugging.{moved, after-term, heads-going, so-far-apart, SplitAt, plugs-top, plugs-ended, plugs-next, plugs-all}
+use Rattle.overlap.proofs.stack.unwind.Statement.{statement}
+use Rattle.overlap.proofs.stack.unwind.Tie as tie
+
+abbrev Inv-loop : tie.InvT-loop
+Inv-loop b base start room₀ lent top₀ verdict₀ room top verdict =
+    (room ≡ room₀) × (base ≤ top) × (top ≤ start)
+    × ((from fuel : ℕ) (w : Found) → Plugs b room₀ base from start (found verdict₀ fuel) w → Plugs b room base from top (found verdict fuel) w)
+
+abbrev μ-loop : tie.MeasureT-loop
+μ-loop b base start room₀ lent top₀ verdict₀ room top verdict = top
+
+abbrev Loop : Type 0
+Loop = tie.At-loop Inv-loop μ-loop
+
+abbrev start-of : Loop → tie.Start Inv-loop μ-loop
+start-of h = h .before .before .before
+
+abbrev bytes : Loop → List ℕ
+bytes h = start-of h .args .b .now
+
+abbrev entries : Loop → List ℕ
+entries h = start-of h .args .room .now
+
+-- The topmost split, for every answer that can be plugged in.
+top-split : (h : Loop) → start-of h .args .base < h .loop .top → (from fuel : ℕ) (w : Found)
+    → Plugs (bytes h) (entries h) (start-of h .args .base) from (start-of h .args .start) (found (start-of h .args .answer) fuel) w
+    → SplitAt (bytes h) (h .loop .room) (start-of h .args .base) from (h .loop .top - 1) (found (h .loop .verdict) fuel) w
+top-split h l from fuel w p = plugs-top (h .loop .top - 1) (h .loop .inv .3 from fuel w p) (omega (arith, l)) l
+
+-- For the one that the function was given.
+given : (h : Loop) → start-of h .args .base < h .loop .top
+    → SplitAt (bytes h) (h .loop .room) (start-of h .args .base) (start-of h .pre .2 .from) (h .loop .top - 1) (found (h .loop .verdict) (start-of h .pre .2 .fuel)) (start-of h .pre .2 .result)
+given h l = let s = start-of h .pre .2 in top-split h l (s .from) (s .fuel) (s .result) (s .plugs)
+
+lends : (h : Loop) → Lends (bytes h) (h .loop .room) (start-of h .args .lent) (start-of h .args .start)
+lends h = subst (λ (m : List ℕ). Lends (bytes h) m (start-of h .args .lent) (start-of h .args .start)) (sym (h .loop .inv .0)) (start-of h .pre .0)
+
+within : (h : Loop) → h .loop .top ≤ length (h .loop .room)
+within h = let l = lends h in omega (arith, l .remembers .fits, l .within, h .loop .inv .2)
+
+loop-holds : tie.Need-loop-holds Inv-loop μ-loop
+loop-holds c = (refl, c .before .before .pre .1, omega arith, λ from fuel w p. p)
+
+sub-k : tie.Need-sub-k Inv-loop μ-loop
+sub-k c = omega (arith, c .loop-test .taken)
+
+mul-split : tie.Need-mul-split Inv-loop μ-loop
+mul-split c = omega (arith, c .loop-test .taken, within (c .before))
+
+slice-read-split : tie.Need-slice-read-split Inv-loop μ-loop
+slice-read-split c = omega (arith, c .before .loop-test .taken, within (c .before .before))
+
+other-of-requires : tie.Need-other-of-requires Inv-loop μ-loop
+other-of-requires c κs = tt
+
+is-overlap-requires : tie.Need-is-overlap-requires Inv-loop μ-loop
+is-overlap-requires c κs = tt
+
+-- The place of the end in turn has been read.
+abbrev Placed : Type 0
+Placed = tie.After-other-of Inv-loop μ-loop
+
+abbrev loop-of : Placed → Loop
+loop-of c = c .before .before .before
+
+abbrev split-of : Placed → ℕ
+split-of c = getD (loop-of c .loop .room) (loop-of c .loop .top - 1) 0
+
+other-there : (c : Placed) → TermsAt Mode.pattern (drop (c .other-of .result) (bytes (loop-of c)))
+other-there c = moved (bytes (loop-of c)) (c .other-of .result) (otherOf (split-of c)) (c .other-of .ensures .0) (given (loop-of c) (c .before .before .loop-test .taken) .other)
+
+shared-slice-read-if2 : tie.Need-shared-slice-read-if2 Inv-loop μ-loop
+shared-slice-read-if2 c = let d = c .before .before .before in inside (bytes (loop-of d)) (d .other-of .result) (other-there d)
+
+term-end-requires : tie.Need-term-end-requires Inv-loop μ-loop
+term-end-requires c κs = let d = c .before .before .before .before .before in (other-there d, c .before .if2 .taken, lends-less (omega arith) (lends (loop-of d)))
+
+-- What the place after a term says.
+abbrev Past : List ℕ → ℕ → ℕ → Type 0
+Past b r p = (x : TermsAt Mode.pattern (drop p b)) → (p ≤ r) × Passes (drop p b) (r - p) (putTerms (tail (x .terms)) (x .rest))
+
+-- The place of the next end is known.
+abbrev Ended : Type 0
+Ended = tie.After-term-end Inv-loop μ-loop
+
+abbrev placed : Ended → Placed
+placed c = c .before .before .before .before .before .before
+
+abbrev left : Ended → List ℕ
+left c = c .term-end .last .1 .1 .0
+
+next-there : (c : Ended) → TermsAt Mode.pattern (drop (c .term-end .result) (bytes (loop-of (placed c))))
+next-there c = after-term (bytes (loop-of (placed c))) (placed c .other-of .result) (c .term-end .result) (other-there (placed c)) (c .term-end .ensures .0 (other-there (placed c)))
+
+so-far-of-requires : tie.Need-so-far-of-requires Inv-loop μ-loop
+so-far-of-requires c κs = tt
+
+remember-requires : tie.Need-remember-requires Inv-loop μ-loop
+remember-requires c κs = tt
+
+rest-of-requires : tie.Need-rest-of-requires Inv-loop μ-loop
+rest-of-requires c κs = tt
+
+heads-of-requires : tie.Need-heads-of-requires Inv-loop μ-loop
+heads-of-requires c κs = tt
+
+-- The verdict of the ends so far.
+so-far-is : (c : tie.After-remember Inv-loop μ-loop)
+    → c .remember .result ≡ remembered (soFarOf (split-of (placed (c .before .before .before .before)))) (loop-of (placed (c .before .before .before .before)) .loop .verdict)
+so-far-is c = c .remember .ensures ∙ ap (λ (s : Verdict). remembered s (loop-of (placed (c .before .before .before .before)) .loop .verdict)) (c .before .so-far-of .ensures)
+
+split-of-requires : tie.Need-split-of-requires Inv-loop μ-loop
+split-of-requires c κs =
+    let r = c .before .before in
+    let d = r .before .before .before .before in
+    let h = loop-of (placed d) in (
+      c .before .rest-of .ensures .1,
+      omega (arith, inside (bytes h) (d .term-end .result) (next-there d), lends h .small),
+      λ e. heads-going (split-of (placed d)) (sym (c .heads-of .ensures) ∙ e),
+      λ e. so-far-apart (split-of (placed d)) (h .loop .verdict) (sym (so-far-is r) ∙ e),
+    )
+
+-- The split has its next end.
+abbrev Moved : Type 0
+Moved = tie.After-split-of Inv-loop μ-loop
+
+abbrev ended : Moved → Ended
+ended c = c .before .before .before .before .before .before .before
+
+room-left : (c : Moved) → loop-of (placed (ended c)) .loop .top ≤ length (left (ended c))
+room-left c = omega (arith, within (loop-of (placed (ended c))), ended c .term-end .ensures .1 .length)
+
+mul-room : tie.Need-mul-room Inv-loop μ-loop
+mul-room c = omega (arith, room-left c, placed (ended c) .before .before .loop-test .taken)
+
+slice-write-room : tie.Need-slice-write-room Inv-loop μ-loop
+slice-write-room c = omega (arith, room-left c, placed (ended c) .before .before .loop-test .taken)
+
+same-length : tie.Need-same-length Inv-loop μ-loop
+same-length c =
+    let h = loop-of (placed (ended c)) in
+    length-set (left (ended c)) (h .loop .top - 1) (c .split-of .result) ∙ ended c .term-end .ensures .1 .length ∙ ap length (h .loop .inv .0)
+
+returns : tie.Need-returns Inv-loop μ-loop
+returns c =
+    let d = ended c in
+    let g = placed d in
+    let h = loop-of g in
+    let k = h .loop .top - 1 in
+    let t = g .before .before .loop-test .taken in
+    let n = set (left d) k (c .split-of .result) in
+    let s = d .term-end .ensures .1 in
+    let w = lends h in
+    let at : getD n k 0 ≡ c .split-of .result = getD-set-same (left d) k (c .split-of .result) 0 (omega (arith, room-left c, t)) in
+    let below : (j : ℕ) → j < k → getD n j 0 ≡ getD (h .loop .room) j 0 =
+    λ j l. getD-set-other (left d) k j (c .split-of .result) 0 (λ e. omega (arith, e, l)) ∙ s .below j (omega (arith, l, w .within, h .loop .inv .2)) in
+    let o : isOverlap (h .loop .verdict) ≡ false = sym (d .before .before .before .before .before .is-overlap .ensures) ∙ not-true _ (d .before .before .before .before .if1 .taken) in
+    let e = c .split-of .ensures in
+    let i : suc k ≡ h .loop .top = omega (arith, t) in
+    let q = split-of g in
+    let m : getD (bytes h) (otherOf q) 0 ≡ 15 → ⊥ = λ x. d .before .before .if2 .taken (ap (λ (j : ℕ). getD (bytes h) j 0) (g .other-of .ensures .0) ∙ x) in
+    let y = subst (λ (j : ℕ). Past (bytes h) (d .term-end .result) j) (g .other-of .ensures .0) (d .term-end .ensures .0) in (
+      λ from fuel r p. inr
+          (subst (λ (top : ℕ). InTurn (bytes h) n (start-of h .args .base) from top fuel r) i
+          (let u = top-split h t from fuel r p in
+          plugs-next u o m (y (u .other)) (ap restOf at ∙ e .0 ∙ c .before .before .rest-of .ensures .0) (ap otherOf at ∙ e .1) (ap headsOf at ∙ e .2 ∙ c .before .heads-of .ensures) (ap soFarOf at ∙ e .3 ∙ so-far-is (c .before .before .before)) below)),
+      (
+        subst (λ (x : List ℕ). Searched (bytes h) (start-of h .args .lent) (start-of h .args .base) x n) (h .loop .inv .0)
+            (searched-then (searched-less (omega (arith, t, w .within, h .loop .inv .2)) s) (entry-written (start-of h .args .base) k (s .remembers) (omega (arith, t)) (omega (arith, t, w .within, h .loop .inv .2)) (c .split-of .result))),
+        h .loop .inv .1,
+        h .loop .inv .2,
+      ),
+    )
+
+heads-of-requires-2 : tie.Need-heads-of-requires-2 Inv-loop μ-loop
+heads-of-requires-2 c κs = tt
+
+so-far-of-requires-2 : tie.Need-so-far-of-requires-2 Inv-loop μ-loop
+so-far-of-requires-2 c κs = tt
+
+ended-by-requires : tie.Need-ended-by-requires Inv-loop μ-loop
+ended-by-requires c κs = tt
+
+behind-verdict-requires : tie.Need-behind-verdict-requires Inv-loop μ-loop
+behind-verdict-requires c κs = tt
+
+loop-less : tie.Need-loop-less Inv-loop μ-loop
+loop-less c = omega (arith, c .before .before .before .before .before .before .before .before .loop-test .taken)
+
+loop-again : tie.Need-loop-again Inv-loop μ-loop
+loop-again c =
+    let j = c .before .before .before .before in
+    let g = j .before .before in
+    let h = loop-of g in
+    let t = g .before .before .loop-test .taken in
+    let k = h .loop .top - 1 in
+    let q = split-of g in
+    let f : (getD (bytes h) (otherOf q) 0 ≡ 15) ⊎ (isOverlap (h .loop .verdict) ≡ true) =
+    ⊎-elim
+    (λ x. inl (ap (λ (i : ℕ). getD (bytes h) i 0) (sym (g .other-of .ensures .0)) ∙ x .2 .left))
+    (λ x. inr (sym (j .before .is-overlap .ensures) ∙ not-false _ (x .left)))
+    (j .if1 .came) in
+    let v : c .behind-verdict .result ≡ behindVerdict (headsOf q) (endedBy (soFarOf q) (h .loop .verdict)) =
+    c .behind-verdict .ensures
+    ∙ ap₂ behindVerdict (c .before .before .before .heads-of2 .ensures) (c .before .ended-by .ensures ∙ ap (λ (s : Verdict). endedBy s (h .loop .verdict)) (c .before .before .so-far-of2 .ensures)) in (
+      h .loop .inv .0,
+      omega (arith, t),
+      omega (arith, h .loop .inv .2),
+      λ from fuel w p. subst (λ (u : Verdict). Plugs (bytes h) (h .loop .room) (start-of h .args .base) from k (found u fuel) w) (sym v) (plugs-ended (top-split h t from fuel w p) f),
+    )
+
+same-length-2 : tie.Need-same-length-2 Inv-loop μ-loop
+same-length-2 c = ap length (c .before .loop .inv .0)
+
+returns-2 : tie.Need-returns-2 Inv-loop μ-loop
+returns-2 c =
+    let h = c .before in
+    let z : h .loop .top ≡ start-of h .args .base = omega (arith, h .loop .inv .1, c .loop-test .left) in (
+      λ from fuel w p. inl (z, plugs-all (h .loop .inv .3 from fuel w p) (omega (arith, z))),
+      (
+        subst (λ (m : List ℕ). Searched (bytes h) (start-of h .args .lent) (start-of h .args .base) m (h .loop .room)) (h .loop .inv .0) (searched-same (lends h .remembers) (start-of h .args .base)),
+        h .loop .inv .1,
+        h .loop .inv .2,
+      ),
+    )
+
+pub unwind-spec : {M : Type 1} → statement M
+unwind-spec =
+    tie.close
+    (tie.spec Inv-loop μ-loop loop-holds sub-k mul-split slice-read-split other-of-requires is-overlap-requires shared-slice-read-if2 term-end-requires so-far-of-requires remember-requires rest-of-requires heads-of-requires split-of-requires mul-room slice-write-room same-length returns heads-of-requires-2 so-far-of-requires-2 ended-by-requires behind-verdict-requires loop-less loop-again same-length-2 returns-2)

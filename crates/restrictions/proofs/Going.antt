@@ -2,6 +2,7 @@
 use Prim.Native.Nat.{ℕ, _+_, _-_, _<_, _≤_}
 use native.Mathlib.Omega.{arith}
 use mathlib.Core.Path.{_≡_, refl, sym, ap, subst, _∙_}
+use mathlib.Core.Logic.{_⊎_, inl, inr}
 use mathlib.Core.List.{List, [], _∷_, _++_, append-assoc, append-nil}
 use lib.ListN.{length, getD, drop, set, length-append, length-drop, length-set}
 use lib.Seq.{drop-drop, getD-drop}
@@ -15,21 +16,63 @@ use Rattle.overlap.proofs.Readings.{part, part-length, part-part}
 use Rattle.restrictions.specs.declared.Walk.{Walk}
 use Rattle.restrictions.specs.Sites.{Site, site}
 use Rattle.restrictions.specs.Entries.{CallAt, heldBy, entryOffset, entrySentence, Entry, Appended}
-use Rattle.restrictions.specs.Records.{terms, conditions, putRecords, recordSites, RecordsAt, Collected}
+use Rattle.restrictions.specs.Records.{Records, terms, conditions, putRecords, recordSites, ValidRecords, RecordsAt, Collected}
 use Rattle.restrictions.proofs.Marks.{tail-less}
-use Rattle.restrictions.proofs.Inside.{records-length, BracketHere, CallHere, BlockHere, SentenceHere, ConditionHere, CloseHere, FlatHere, bracket-here, call-here, block-here, sentence-here, condition-here, result-here, close-here, flat-here}
+use Rattle.restrictions.proofs.Inside.{pattern-sites, pattern-result, records-length, BracketHere, CallHere, BlockHere, SentenceHere, ConditionHere, CloseHere, FlatHere, bracket-here, call-here, block-here, sentence-here, condition-here, result-here, close-here, flat-here}
 use Rattle.restrictions.proofs.Appended.{held-append, held-length, appended-nothing, appended-length, appended-then, appended-one}
 
-pub record Going (b : List ℕ) (at k : ℕ) (old : List ℕ) (n : ℕ) (new : List ℕ) (p c : ℕ) (r : RecordsAt (drop at b)) : Type 0 where
-  pub there : RecordsAt (drop p b)
-  pub same : there .rest ≡ r .rest
+-- Records that stand one after another, each up to its close.
+abbrev pub putAll : List Records → List ℕ → List ℕ
+putAll [] l = l
+putAll (x ∷ xs) l = putRecords x (putAll xs l)
+
+abbrev pub allSites : List Records → List Site
+allSites [] = []
+allSites (x ∷ xs) = recordSites x ++ allSites xs
+
+abbrev pub AllValid : List Records → Type 0
+AllValid [] = Unit {0}
+AllValid (x ∷ xs) = ValidRecords x × AllValid xs
+
+all-length : (xs : List Records) (l : List ℕ) → length xs + length l ≤ length (putAll xs l)
+all-length [] l = omega arith
+all-length (x ∷ xs) l = omega (arith, all-length xs l, records-length x (putAll xs l))
+
+-- At the loop's head: the records that are left at p, as many as closes are to come.
+pub record Going (b : List ℕ) (at k : ℕ) (old : List ℕ) (n : ℕ) (new : List ℕ) (p c q : ℕ) (r : RecordsAt (drop at b)) : Type 0 where
+  pub left : List Records
+  pub is : drop p b ≡ putAll left (r .rest)
+  pub valid : AllValid left
+  pub closes : q ≡ length left
+  pub fits : p ≤ length b
   pub done : List Site
   pub appended : Appended b old n c new (heldBy k done)
-  pub whole : recordSites (r .records) ≡ done ++ recordSites (there .records)
+  pub whole : recordSites (r .records) ≡ done ++ allSites left
 
-pub going-first : {b : List ℕ} {at : ℕ} (k : ℕ) (old : List ℕ) (n : ℕ) (r : RecordsAt (drop at b)) → n ≤ length old → Going b at k old n old at n r
+-- In a turn: the records that go on at p, and those around them.
+pub record Turn (b : List ℕ) (at k : ℕ) (old : List ℕ) (n : ℕ) (new : List ℕ) (p c q : ℕ) (r : RecordsAt (drop at b)) : Type 0 where
+  pub first : Records
+  pub around : List Records
+  pub is : drop p b ≡ putRecords first (putAll around (r .rest))
+  pub valid : ValidRecords first
+  pub valid-around : AllValid around
+  pub closes : q ≡ 1 + length around
+  pub done : List Site
+  pub appended : Appended b old n c new (heldBy k done)
+  pub whole : recordSites (r .records) ≡ done ++ (recordSites first ++ allSites around)
+
+pub going-first : {b : List ℕ} {at : ℕ} (k : ℕ) (old : List ℕ) (n : ℕ) (r : RecordsAt (drop at b)) → n ≤ length old → Going b at k old n old at n 1 r
 unfolding heldBy
-going-first {b} k old n r l = record { there = r; same = refl; done = []; appended = appended-nothing b old n l; whole = refl }
+going-first {b} {at} k old n r l = record {
+  left = r .records ∷ [];
+  is = r .is;
+  valid = (r .valid, tt);
+  closes = refl;
+  fits = omega (arith, ap length (r .is), records-length (r .records) (r .rest), length-drop at b);
+  done = [];
+  appended = appended-nothing b old n l;
+  whole = sym (append-nil (recordSites (r .records)));
+}
 
 -- Where a part's bytes stand in the whole.
 pub from-part : (b : List ℕ) (p i : ℕ) {l : List ℕ} → Passes (part b p) i l → drop (p + i) b ≡ l
@@ -39,141 +82,174 @@ pub collected-later : {b : List ℕ} {i k : ℕ} {old : List ℕ} {n : ℕ} {new
 collected-later {b} {i} {w = w} {r = r} c =
     omega (arith, ap length (r .is), records-length (r .records) (r .rest), length-drop i b, length-drop (w .at) b, ap length (c .left), c .fits)
 
-module _ {b : List ℕ} {at k : ℕ} {old : List ℕ} {n : ℕ} {new : List ℕ} {p c : ℕ} {r : RecordsAt (drop at b)} (g : Going b at k old n new p c r) where
-  pub going-within : p < length b
-  going-within = omega (arith, ap length (g .there .is), records-length (g .there .records) (g .there .rest), length-drop p b)
+module _ {b : List ℕ} {at k : ℕ} {old : List ℕ} {n : ℕ} {new : List ℕ} {p c q : ℕ} {r : RecordsAt (drop at b)} where
+  turn-of : (xs : List Records) → drop p b ≡ putAll xs (r .rest) → AllValid xs → q ≡ length xs → (done : List Site) → Appended b old n c new (heldBy k done) → recordSites (r .records) ≡ done ++ allSites xs → 0 < q → Turn b at k old n new p c q r
+  turn-of [] e v m done a s l = absurd (omega (arith, m, l))
+  turn-of (x ∷ xs) e v m done a s l = record { first = x; around = xs; is = e; valid = v .0; valid-around = v .1; closes = omega (arith, m); done = done; appended = a; whole = s }
 
-  pub going-length : length new ≡ length old
-  going-length = appended-length (g .appended)
+  pub turn : Going b at k old n new p c q r → 0 < q → Turn b at k old n new p c q r
+  turn g l = turn-of (g .left) (g .is) (g .valid) (g .closes) (g .done) (g .appended) (g .whole) l
 
-  pub going-room : n + length (recordSites (r .records)) ≤ length old → c + length (recordSites (g .there .records)) ≤ length new
-  going-room l =
-      omega (arith, l, going-length, g .appended .count, g .appended .many, held-length k (g .done), ap length (g .whole), length-append (g .done) (recordSites (g .there .records)))
+  done-of : (xs : List Records) → drop p b ≡ putAll xs (r .rest) → q ≡ length xs → (done : List Site) → Appended b old n c new (heldBy k done) → recordSites (r .records) ≡ done ++ allSites xs → p ≤ length b → q ≤ 0 → {w : Walk} → w .at ≡ p → w .count ≡ c → Collected b at k old n new w r
+  done-of [] e m done a s f l {w} i j = record {
+    appended = subst (λ (i : ℕ). Appended b old n i new (heldBy k (recordSites (r .records)))) (sym j)
+        (subst (λ (l : List Site). Appended b old n c new (heldBy k l)) (sym (s ∙ append-nil done)) a);
+    left = ap (λ (i : ℕ). drop i b) i ∙ e;
+    fits = omega (arith, f, i);
+  }
+  done-of (x ∷ xs) e m done a s f l i j = absurd (omega (arith, m, l))
+
+  -- No close is to come.
+  pub going-done : Going b at k old n new p c q r → q ≤ 0 → {w : Walk} → w .at ≡ p → w .count ≡ c → Collected b at k old n new w r
+  going-done g l = done-of (g .left) (g .is) (g .closes) (g .done) (g .appended) (g .whole) (g .fits) l
+
+-- A mark with no arm of its own.
+abbrev pub Other : ℕ → Type 0
+Other m = (((Unit {0} × ((m ≡ 7) ⊎ ((m ≡ 9) ⊎ (m ≡ 11)) → ⊥)) × (m ≡ 8 → ⊥)) × (m ≡ 10 → ⊥)) × ((m ≡ 12) ⊎ (m ≡ 15) → ⊥)
+
+module _ {b : List ℕ} {at k : ℕ} {old : List ℕ} {n : ℕ} {new : List ℕ} {p c q : ℕ} {r : RecordsAt (drop at b)} (g : Turn b at k old n new p c q r) where
+  abbrev rest : List ℕ
+  rest = putAll (g .around) (r .rest)
+
+  abbrev sites-around : List Site
+  sites-around = allSites (g .around)
+
+  pub turn-within : p < length b
+  turn-within = omega (arith, ap length (g .is), records-length (g .first) rest, length-drop p b)
+
+  pub turn-closes : q + p ≤ length b
+  turn-closes = omega (arith, ap length (g .is), records-length (g .first) rest, all-length (g .around) (r .rest), length-drop p b, g .closes)
+
+  pub turn-length : length new ≡ length old
+  turn-length = appended-length (g .appended)
+
+  turn-room : n + length (recordSites (r .records)) ≤ length old → c + length (recordSites (g .first)) + length sites-around ≤ length new
+  turn-room l =
+      omega (arith, l, turn-length, g .appended .count, g .appended .many, held-length k (g .done), ap length (g .whole), length-append (g .done) (recordSites (g .first) ++ sites-around), length-append (recordSites (g .first)) sites-around)
 
   -- After more sites.
-  pub going-on : {new′ : List ℕ} {p′ c′ : ℕ} (ys : List Site) → Appended b new c c′ new′ (heldBy k ys) → (next : RecordsAt (drop p′ b)) → next .rest ≡ g .there .rest → recordSites (g .there .records) ≡ ys ++ recordSites (next .records)
-      → Going b at k old n new′ p′ c′ r
-  going-on {new′} {p′} {c′} ys a next e s = record {
-    there = next;
-    same = e ∙ g .same;
+  going-on : {new′ : List ℕ} {p′ c′ q′ : ℕ} (ys : List Site) → Appended b new c c′ new′ (heldBy k ys) → (xs : List Records) → drop p′ b ≡ putAll xs (r .rest) → AllValid xs → q′ ≡ length xs → p′ ≤ length b → recordSites (g .first) ++ sites-around ≡ ys ++ allSites xs
+      → Going b at k old n new′ p′ c′ q′ r
+  going-on {new′} {p′} {c′} ys a xs e v m f s = record {
+    left = xs;
+    is = e;
+    valid = v;
+    closes = m;
+    fits = f;
     done = g .done ++ ys;
     appended = subst (Appended b old n c′ new′) (sym (held-append k (g .done) ys)) (appended-then (g .appended) a);
-    whole = g .whole ∙ (ap (λ (l : List Site). g .done ++ l) s ∙ sym (append-assoc (g .done) ys (recordSites (next .records))));
+    whole = g .whole ∙ (ap (λ (l : List Site). g .done ++ l) s ∙ sym (append-assoc (g .done) ys (allSites xs)));
   }
 
-  mark-here : getD b p 0 ≡ getD (putRecords (g .there .records) (g .there .rest)) 0 0
-  mark-here = let z : p + 0 ≡ p = omega arith in sym (getD-drop p b 0 0 ∙ ap (λ (i : ℕ). getD b i 0) z) ∙ ap (λ (l : List ℕ). getD l 0 0) (g .there .is)
+  nothing-listed : Appended b new c c new (heldBy k [])
+  unfolding heldBy
+  nothing-listed = appended-nothing b new c (omega (arith, g .appended .fits, turn-length))
 
-  module _ (m : getD b p 0 ≡ 7) where
-    pub bracket-in : BracketHere (g .there .records) (g .there .rest)
-    bracket-in = bracket-here (g .there .rest) (g .there .records) (g .there .valid) (sym mark-here ∙ m)
+  mark-here : getD b p 0 ≡ getD (putRecords (g .first) rest) 0 0
+  mark-here = let z : p + 0 ≡ p = omega arith in sym (getD-drop p b 0 0 ∙ ap (λ (i : ℕ). getD b i 0) z) ∙ ap (λ (l : List ℕ). getD l 0 0) (g .is)
 
-    pub inner-is : drop (p + 9) b ≡ putRecords (bracket-in .inner) (putRecords (bracket-in .next) (g .there .rest))
-    inner-is = sym (drop-drop 9 p b) ∙ (ap (drop 9) (g .there .is) ∙ bracket-in .is)
+  inside-is : {l : List ℕ} → drop 9 (putRecords (g .first) rest) ≡ l → drop (p + 9) b ≡ l
+  inside-is e = sym (drop-drop 9 p b) ∙ (ap (drop 9) (g .is) ∙ e)
 
-    abbrev pub bracket-reading : RecordsAt (drop (p + 9) b)
-    bracket-reading = record { records = bracket-in .inner; rest = putRecords (bracket-in .next) (g .there .rest); is = inner-is; valid = bracket-in .valid-inner }
+  inside-fits : (x : Records) (l : List ℕ) → drop (p + 9) b ≡ putRecords x l → p + 9 ≤ length b
+  inside-fits x l e = omega (arith, ap length e, records-length x l, length-drop (p + 9) b)
 
-    pub bracket-room : n + length (recordSites (r .records)) ≤ length old → c + length (recordSites (bracket-reading .records)) ≤ length new
-    bracket-room l = omega (arith, going-room l, ap length (bracket-in .sites), length-append (recordSites (bracket-in .inner)) (recordSites (bracket-in .next)))
+  -- The site lists of two and of three lists inside, before those around.
+  two-sites : (x y : List Site) → recordSites (g .first) ≡ x ++ y → recordSites (g .first) ++ sites-around ≡ x ++ (y ++ sites-around)
+  two-sites x y e = ap (λ (l : List Site). l ++ sites-around) e ∙ append-assoc x y sites-around
 
-    pub bracket-passed : {new′ : List ℕ} {w : Walk} → Collected b (p + 9) k new c new′ w bracket-reading → Going b at k old n new′ (w .at) (w .count) r
-    bracket-passed z =
-        going-on (recordSites (bracket-in .inner)) (z .appended) (record { records = bracket-in .next; rest = g .there .rest; is = z .left; valid = bracket-in .valid-next }) refl (bracket-in .sites)
+  three-sites : (x y z : List Site) → recordSites (g .first) ≡ x ++ (y ++ z) → recordSites (g .first) ++ sites-around ≡ x ++ (y ++ (z ++ sites-around))
+  three-sites x y z e = two-sites x (y ++ z) e ∙ ap (λ (l : List Site). x ++ l) (append-assoc y z sites-around)
+
+  bracket-passed : getD b p 0 ≡ 7 → {o : ℕ} → o ≡ 1 → Going b at k old n new (p + 9) c (q + o) r
+  bracket-passed m e =
+      let h = bracket-here rest (g .first) (g .valid) (sym mark-here ∙ m) in
+      let i = inside-is (h .is) in
+      going-on [] nothing-listed (h .inner ∷ h .next ∷ g .around) i (h .valid-inner, (h .valid-next, g .valid-around)) (omega (arith, g .closes, e)) (inside-fits (h .inner) _ i) (two-sites (recordSites (h .inner)) (recordSites (h .next)) (h .sites))
+
+  block-passed : getD b p 0 ≡ 9 → {o : ℕ} → o ≡ 2 → Going b at k old n new (p + 9) c (q + o) r
+  block-passed m e =
+      let h = block-here rest (g .first) (g .valid) (sym mark-here ∙ m) in
+      let i = inside-is (h .is) in
+      going-on [] nothing-listed (h .first ∷ h .second ∷ h .next ∷ g .around) i (h .valid-first, (h .valid-second, (h .valid-next, g .valid-around))) (omega (arith, g .closes, e)) (inside-fits (h .first) _ i) (three-sites (recordSites (h .first)) (recordSites (h .second)) (recordSites (h .next)) (h .sites))
+
+  -- A pattern is walked as terms: it has no sites.
+  condition-passed : getD b p 0 ≡ 11 → {o : ℕ} → o ≡ 2 → Going b at k old n new (p + 9) c (q + o) r
+  unfolding putRecords recordSites
+  condition-passed m e =
+      let h = condition-here rest (g .first) (g .valid) (sym mark-here ∙ m) in
+      let i = inside-is (h .is) in
+      going-on [] nothing-listed (h .inner ∷ terms (h .pattern) ∷ h .next ∷ g .around) i (h .valid-inner, (pattern-result (h .pattern) 0 (h .valid-pattern), (h .valid-next, g .valid-around))) (omega (arith, g .closes, e)) (inside-fits (h .inner) _ i)
+      (two-sites (recordSites (h .inner)) (recordSites (h .next)) (h .sites) ∙ ap (λ (l : List Site). recordSites (h .inner) ++ (l ++ (recordSites (h .next) ++ sites-around))) (sym (pattern-sites (h .pattern) 0 (h .valid-pattern))))
+
+  pub opened-small : (getD b p 0 ≡ 7) ⊎ ((getD b p 0 ≡ 9) ⊎ (getD b p 0 ≡ 11)) → (o : ℕ) → ((getD b p 0 ≡ 7) → o ≡ 1) × (((getD b p 0 ≡ 9) → o ≡ 2) × ((getD b p 0 ≡ 11) → o ≡ 2)) → o ≤ 2
+  opened-small (inl m) o h = omega (arith, h .0 m)
+  opened-small (inr (inl m)) o h = omega (arith, h .1 .0 m)
+  opened-small (inr (inr m)) o h = omega (arith, h .1 .1 m)
+
+  pub opened-passed : (getD b p 0 ≡ 7) ⊎ ((getD b p 0 ≡ 9) ⊎ (getD b p 0 ≡ 11)) → (o : ℕ) → ((getD b p 0 ≡ 7) → o ≡ 1) × (((getD b p 0 ≡ 9) → o ≡ 2) × ((getD b p 0 ≡ 11) → o ≡ 2)) → Going b at k old n new (p + 9) c (q + o) r
+  opened-passed (inl m) o h = bracket-passed m (h .0 m)
+  opened-passed (inr (inl m)) o h = block-passed m (h .1 .0 m)
+  opened-passed (inr (inr m)) o h = condition-passed m (h .1 .1 m)
 
   module _ (m : getD b p 0 ≡ 8) where
-    pub call-in : CallHere (g .there .records) (g .there .rest)
-    call-in = call-here (g .there .rest) (g .there .records) (g .there .valid) (sym mark-here ∙ m)
-
-    abbrev call-place : CallAt (drop p b)
-    call-place = record { span = call-in .call .span; callee = call-in .call .callee; argument = call-in .call .argument; rest = call-in .call .rest; is = g .there .is ∙ call-in .call .is; valid = call-in .call .valid }
+    pub call-in : CallHere (g .first) rest
+    call-in = call-here rest (g .first) (g .valid) (sym mark-here ∙ m)
 
     abbrev pub call-part : CallAt (part b p)
-    call-part = record { span = call-in .call .span; callee = call-in .call .callee; argument = call-in .call .argument; rest = call-in .call .rest; is = part-rest b p ∙ (g .there .is ∙ call-in .call .is); valid = call-in .call .valid }
+    call-part = record { span = call-in .call .span; callee = call-in .call .callee; argument = call-in .call .argument; rest = call-in .call .rest; is = part-rest b p ∙ (g .is ∙ call-in .call .is); valid = call-in .call .valid }
 
     pub call-space : n + length (recordSites (r .records)) ≤ length old → c < length new
-    call-space l = omega (arith, going-room l, ap length (call-in .sites))
+    call-space l = omega (arith, turn-room l, ap length (call-in .sites))
 
     module _ (i : ℕ) (h : Passes (part b p) i (putTerms (call-in .call .argument) (call-in .call .rest))) where
-      pub argument-is : drop (p + i) b ≡ putRecords (terms (call-in .call .argument)) (putRecords (call-in .next) (g .there .rest))
+      argument-is : drop (p + i) b ≡ putRecords (terms (call-in .call .argument)) (putRecords (call-in .next) rest)
       unfolding putRecords
       argument-is = from-part b p i h ∙ ap (putTerms (call-in .call .argument)) (call-in .is)
 
-      abbrev pub argument-reading : RecordsAt (drop (p + i) b)
-      argument-reading = record { records = terms (call-in .call .argument); rest = putRecords (call-in .next) (g .there .rest); is = argument-is; valid = call-in .call .valid }
-
-      pub argument-fits : p + i ≤ length b
-      argument-fits = omega (arith, h .fits, part-length b p, going-within)
-
-      pub argument-later : 0 < i
+      pub argument-fits : (0 < i) × (p + i ≤ length b)
       unfolding putSpan put32 putName
-      argument-later = omega (arith, h .fits, length-drop i (part b p), ap length (h .left), ap length (call-part .is), length-append (call-in .call .callee) (putTerms (call-in .call .argument) (call-in .call .rest)))
+      argument-fits = (
+        omega (arith, h .fits, length-drop i (part b p), ap length (h .left), ap length (call-part .is), length-append (call-in .call .callee) (putTerms (call-in .call .argument) (call-in .call .rest))),
+        omega (arith, h .fits, part-length b p, turn-within),
+      )
 
-      pub argument-room : (e : ℕ) → n + length (recordSites (r .records)) ≤ length old → c + 1 + length (recordSites (argument-reading .records)) ≤ length (set new c e)
-      argument-room e l =
-          omega (arith, going-room l, ap length (call-in .sites), length-append (recordSites (terms (call-in .call .argument))) (recordSites (call-in .next)), length-set new c e)
-
-      -- The entry e, and after it the sites of the argument.
-      pub call-passed : (e : ℕ) → (entryOffset e ≡ p) × (entrySentence e ≡ k) → c < length new
-          → {new′ : List ℕ} {w : Walk} → Collected b (p + i) k (set new c e) (c + 1) new′ w argument-reading → Going b at k old n new′ (w .at) (w .count) r
+      -- The entry e, and after it the argument.
+      pub call-passed : (e : ℕ) → (entryOffset e ≡ p) × (entrySentence e ≡ k) → c < length new → Going b at k old n (set new c e) (p + i) (c + 1) (q + 1) r
       unfolding heldBy
-      call-passed e q l z =
-          going-on (site (call-in .call .callee) (call-in .call .argument) ∷ recordSites (terms (call-in .call .argument)))
-          (appended-then (appended-one b new c e (record { sentence = k; site = site (call-in .call .callee) (call-in .call .argument) }) l entry-here) (z .appended))
-          (record { records = call-in .next; rest = g .there .rest; is = z .left; valid = call-in .valid-next }) refl (call-in .sites)
+      call-passed e s l =
+          let x = site (call-in .call .callee) (call-in .call .argument) in
+          let a = recordSites (terms (call-in .call .argument)) in
+          going-on (x ∷ []) (appended-one b new c e (record { sentence = k; site = x }) l entry-here) (terms (call-in .call .argument) ∷ call-in .next ∷ g .around) argument-is (call-in .call .valid, (call-in .valid-next, g .valid-around)) (omega (arith, g .closes)) (argument-fits .1)
+          (two-sites (x ∷ a) (recordSites (call-in .next)) (call-in .sites))
         where
           entry-here : Entry b e (record { sentence = k; site = site (call-in .call .callee) (call-in .call .argument) })
           entry-here = record {
-            call = record { span = call-in .call .span; callee = call-in .call .callee; argument = call-in .call .argument; rest = call-in .call .rest; is = ap (λ (j : ℕ). drop j b) (q .0) ∙ (g .there .is ∙ call-in .call .is); valid = call-in .call .valid };
+            call = record { span = call-in .call .span; callee = call-in .call .callee; argument = call-in .call .argument; rest = call-in .call .rest; is = ap (λ (j : ℕ). drop j b) (s .0) ∙ (g .is ∙ call-in .call .is); valid = call-in .call .valid };
             callee = refl;
             argument = refl;
-            sentence = q .1;
+            sentence = s .1;
           }
 
-  module _ (m : getD b p 0 ≡ 9) where
-    pub block-in : BlockHere (g .there .records) (g .there .rest)
-    block-in = block-here (g .there .rest) (g .there .records) (g .there .valid) (sym mark-here ∙ m)
-
-    pub first-is : drop (p + 9) b ≡ putRecords (block-in .first) (putRecords (block-in .second) (putRecords (block-in .next) (g .there .rest)))
-    first-is = sym (drop-drop 9 p b) ∙ (ap (drop 9) (g .there .is) ∙ block-in .is)
-
-    abbrev pub first-reading : RecordsAt (drop (p + 9) b)
-    first-reading = record { records = block-in .first; rest = putRecords (block-in .second) (putRecords (block-in .next) (g .there .rest)); is = first-is; valid = block-in .valid-first }
-
-    block-room : n + length (recordSites (r .records)) ≤ length old → c + length (recordSites (block-in .first)) + length (recordSites (block-in .second)) ≤ length new
-    block-room l =
-        omega (arith, going-room l, ap length (block-in .sites), length-append (recordSites (block-in .first)) (recordSites (block-in .second) ++ recordSites (block-in .next)), length-append (recordSites (block-in .second)) (recordSites (block-in .next)))
-
-    pub first-room : n + length (recordSites (r .records)) ≤ length old → c + length (recordSites (first-reading .records)) ≤ length new
-    first-room l = omega (arith, block-room l)
-
-    module _ {new₁ : List ℕ} {a : Walk} (z : Collected b (p + 9) k new c new₁ a first-reading) where
-      abbrev pub second-reading : RecordsAt (drop (a .at) b)
-      second-reading = record { records = block-in .second; rest = putRecords (block-in .next) (g .there .rest); is = z .left; valid = block-in .valid-second }
-
-      pub second-room : n + length (recordSites (r .records)) ≤ length old → a .count + length (recordSites (second-reading .records)) ≤ length new₁
-      second-room l = omega (arith, block-room l, appended-length (z .appended), z .appended .count, z .appended .many, held-length k (recordSites (block-in .first)))
-
-      pub block-passed : {new′ : List ℕ} {w : Walk} → Collected b (a .at) k new₁ (a .count) new′ w second-reading → Going b at k old n new′ (w .at) (w .count) r
-      block-passed {new′} {w} y =
-          going-on (recordSites (block-in .first) ++ recordSites (block-in .second))
-          (subst (Appended b new c (w .count) new′) (sym (held-append k (recordSites (block-in .first)) (recordSites (block-in .second)))) (appended-then (z .appended) (y .appended)))
-          (record { records = block-in .next; rest = g .there .rest; is = y .left; valid = block-in .valid-next }) refl
-          (block-in .sites ∙ sym (append-assoc (recordSites (block-in .first)) (recordSites (block-in .second)) (recordSites (block-in .next))))
-
   module _ (m : getD b p 0 ≡ 10) where
-    pub sentence-in : SentenceHere (g .there .records) (g .there .rest)
-    sentence-in = sentence-here (g .there .rest) (g .there .records) (g .there .valid) (sym mark-here ∙ m)
+    pub sentence-in : SentenceHere (g .first) rest
+    sentence-in = sentence-here rest (g .first) (g .valid) (sym mark-here ∙ m)
 
     abbrev pub sentence-part : SentenceAt (part b p)
     sentence-part = record {
       sentence = sentence-in .here .sentence;
       rest = sentence-in .here .rest;
-      is = part-rest b p ∙ (g .there .is ∙ sentence-in .here .is);
+      is = part-rest b p ∙ (g .is ∙ sentence-in .here .is);
       valid-pattern = sentence-in .here .valid-pattern;
       valid-conditions = sentence-in .here .valid-conditions;
       valid-result = sentence-in .here .valid-result;
     }
+
+    abbrev result-sites : List Site
+    result-sites = recordSites (terms (sentence-in .here .sentence .result))
+
+    abbrev conditions-sites : List Site
+    conditions-sites = recordSites (conditions (sentence-in .here .sentence .conditions))
 
     sentence-long : length (putTerms (sentence-in .here .sentence .result) (sentence-in .here .rest)) < length (part b p)
     unfolding putSentence
@@ -189,14 +265,25 @@ module _ {b : List ℕ} {at k : ℕ} {old : List ℕ} {n : ℕ} {new : List ℕ}
         let k = putConditions (x .conditions) (12 ∷ putTerms (x .result) (sentence-in .here .rest)) in
         omega (arith, ap length (sentence-part .is), head-length (x .head) (putTerms (x .pattern) k), terms-length (x .pattern) k)
 
-    sentence-room : n + length (recordSites (r .records)) ≤ length old
-        → c + length (recordSites (terms (sentence-in .here .sentence .result))) + length (recordSites (conditions (sentence-in .here .sentence .conditions))) ≤ length new
+    sentence-room : n + length (recordSites (r .records)) ≤ length old → c + length result-sites + length conditions-sites ≤ length new
     sentence-room l =
-        let x = sentence-in .here .sentence in
-        omega (arith, going-room l, ap length (sentence-in .sites), length-append (recordSites (terms (x .result))) (recordSites (conditions (x .conditions)) ++ recordSites (sentence-in .next)), length-append (recordSites (conditions (x .conditions))) (recordSites (sentence-in .next)))
+        omega (arith, turn-room l, ap length (sentence-in .sites), length-append result-sites (conditions-sites ++ recordSites (sentence-in .next)), length-append conditions-sites (recordSites (sentence-in .next)))
 
-    module _ (i : ℕ) (h : Passes (part b p) i (putTerms (sentence-in .here .sentence .result) (sentence-in .here .rest)))
-        (j : ℕ) (q : Passes (part b p) j (putConditions (sentence-in .here .sentence .conditions) (12 ∷ putTerms (sentence-in .here .sentence .result) (sentence-in .here .rest)))) where
+    module _ (j : ℕ) (h : Passes (part b p) j (putConditions (sentence-in .here .sentence .conditions) (12 ∷ putTerms (sentence-in .here .sentence .result) (sentence-in .here .rest)))) where
+      pub conditions-is : drop (p + j) b ≡ putRecords (conditions (sentence-in .here .sentence .conditions)) (putTerms (sentence-in .here .sentence .result) (sentence-in .here .rest))
+      unfolding putRecords
+      conditions-is = from-part b p j h
+
+      abbrev pub conditions-reading : RecordsAt (drop (p + j) b)
+      conditions-reading = record { records = conditions (sentence-in .here .sentence .conditions); rest = putTerms (sentence-in .here .sentence .result) (sentence-in .here .rest); is = conditions-is; valid = sentence-in .here .valid-conditions }
+
+      pub conditions-fits : (0 < j) × (p + j ≤ length b)
+      conditions-fits = (
+        omega (arith, h .fits, length-drop j (part b p), ap length (h .left), conditions-long),
+        omega (arith, h .fits, part-length b p, turn-within),
+      )
+
+    module _ (i : ℕ) (h : Passes (part b p) i (putTerms (sentence-in .here .sentence .result) (sentence-in .here .rest))) where
       pub result-is : drop (p + i) b ≡ putRecords (terms (sentence-in .here .sentence .result)) (sentence-in .here .rest)
       unfolding putRecords
       result-is = from-part b p i h
@@ -204,93 +291,52 @@ module _ {b : List ℕ} {at k : ℕ} {old : List ℕ} {n : ℕ} {new : List ℕ}
       abbrev pub result-reading : RecordsAt (drop (p + i) b)
       result-reading = record { records = terms (sentence-in .here .sentence .result); rest = sentence-in .here .rest; is = result-is; valid = sentence-in .here .valid-result }
 
-      pub conditions-is : drop (p + j) b ≡ putRecords (conditions (sentence-in .here .sentence .conditions)) (putTerms (sentence-in .here .sentence .result) (sentence-in .here .rest))
-      unfolding putRecords
-      conditions-is = from-part b p j q
-
-      abbrev pub conditions-reading : RecordsAt (drop (p + j) b)
-      conditions-reading = record { records = conditions (sentence-in .here .sentence .conditions); rest = putTerms (sentence-in .here .sentence .result) (sentence-in .here .rest); is = conditions-is; valid = sentence-in .here .valid-conditions }
-
-      pub sentence-fits : (0 < i) × (p + i ≤ length b) × (0 < j) × (p + j ≤ length b)
-      sentence-fits = (
+      pub result-fits : (0 < i) × (p + i ≤ length b)
+      result-fits = (
         omega (arith, h .fits, length-drop i (part b p), ap length (h .left), sentence-long),
-        omega (arith, h .fits, part-length b p, going-within),
-        omega (arith, q .fits, length-drop j (part b p), ap length (q .left), conditions-long),
-        omega (arith, q .fits, part-length b p, going-within),
+        omega (arith, h .fits, part-length b p, turn-within),
       )
 
       pub result-room : n + length (recordSites (r .records)) ≤ length old → c + length (recordSites (result-reading .records)) ≤ length new
       result-room l = omega (arith, sentence-room l)
 
-      module _ {new₁ : List ℕ} {a : Walk} (z : Collected b (p + i) k new c new₁ a result-reading) where
-        pub conditions-room : n + length (recordSites (r .records)) ≤ length old → a .count + length (recordSites (conditions-reading .records)) ≤ length new₁
-        conditions-room l = omega (arith, sentence-room l, appended-length (z .appended), z .appended .count, z .appended .many, held-length k (recordSites (terms (sentence-in .here .sentence .result))))
+      module _ {new₁ : List ℕ} {a : Walk} (z : Collected b (p + i) k new c new₁ a result-reading) (j : ℕ)
+          (s : Passes (part b p) j (putConditions (sentence-in .here .sentence .conditions) (12 ∷ putTerms (sentence-in .here .sentence .result) (sentence-in .here .rest)))) where
+        pub conditions-room : n + length (recordSites (r .records)) ≤ length old → a .count + length (recordSites (conditions-reading j s .records)) ≤ length new₁
+        conditions-room l = omega (arith, sentence-room l, appended-length (z .appended), z .appended .count, z .appended .many, held-length k result-sites)
 
-        pub sentence-passed : {new′ : List ℕ} {w : Walk} → Collected b (p + j) k new₁ (a .count) new′ w conditions-reading → Going b at k old n new′ (a .at) (w .count) r
+        pub sentence-passed : {new′ : List ℕ} {w : Walk} → Collected b (p + j) k new₁ (a .count) new′ w (conditions-reading j s) → Going b at k old n new′ (a .at) (w .count) q r
         sentence-passed {new′} {w} y =
-            let s = recordSites (terms (sentence-in .here .sentence .result)) in
-            let u = recordSites (conditions (sentence-in .here .sentence .conditions)) in
-            going-on (s ++ u)
-            (subst (Appended b new c (w .count) new′) (sym (held-append k s u)) (appended-then (z .appended) (y .appended)))
-            (record { records = sentence-in .next; rest = g .there .rest; is = z .left ∙ sentence-in .is; valid = sentence-in .valid-next }) refl
-            (sentence-in .sites ∙ sym (append-assoc s u (recordSites (sentence-in .next))))
+            going-on (result-sites ++ conditions-sites)
+            (subst (Appended b new c (w .count) new′) (sym (held-append k result-sites conditions-sites)) (appended-then (z .appended) (y .appended)))
+            (sentence-in .next ∷ g .around) (z .left ∙ sentence-in .is) (sentence-in .valid-next, g .valid-around) (omega (arith, g .closes)) (z .fits)
+            (three-sites result-sites conditions-sites (recordSites (sentence-in .next)) (sentence-in .sites) ∙ sym (append-assoc result-sites conditions-sites (recordSites (sentence-in .next) ++ sites-around)))
 
-  module _ (m : getD b p 0 ≡ 11) where
-    pub condition-in : ConditionHere (g .there .records) (g .there .rest)
-    condition-in = condition-here (g .there .rest) (g .there .records) (g .there .valid) (sym mark-here ∙ m)
+  close-in : (getD b p 0 ≡ 12) ⊎ (getD b p 0 ≡ 15) → CloseHere (g .first) rest
+  close-in (inl m) = result-here rest (g .first) (g .valid) (sym mark-here ∙ m)
+  close-in (inr m) = close-here rest (g .first) (g .valid) (sym mark-here ∙ m)
 
-    pub condition-is : drop (p + 9) b ≡ putRecords (condition-in .inner) (putTerms (condition-in .pattern) (putRecords (condition-in .next) (g .there .rest)))
-    condition-is = sym (drop-drop 9 p b) ∙ (ap (drop 9) (g .there .is) ∙ condition-in .is)
+  pub close-passed : (getD b p 0 ≡ 12) ⊎ (getD b p 0 ≡ 15) → Going b at k old n new (p + 1) c (q - 1) r
+  close-passed m =
+      let h = close-in m in
+      going-on [] nothing-listed (g .around) (sym (drop-drop 1 p b) ∙ (ap (drop 1) (g .is) ∙ h .is)) (g .valid-around) (omega (arith, g .closes)) (omega (arith, turn-within)) (ap (λ (l : List Site). l ++ sites-around) (h .sites))
 
-    abbrev pub condition-reading : RecordsAt (drop (p + 9) b)
-    condition-reading = record { records = condition-in .inner; rest = putTerms (condition-in .pattern) (putRecords (condition-in .next) (g .there .rest)); is = condition-is; valid = condition-in .valid-inner }
-
-    pub condition-room : n + length (recordSites (r .records)) ≤ length old → c + length (recordSites (condition-reading .records)) ≤ length new
-    condition-room l = omega (arith, going-room l, ap length (condition-in .sites), length-append (recordSites (condition-in .inner)) (recordSites (condition-in .next)))
-
-    module _ {new′ : List ℕ} {w : Walk} (z : Collected b (p + 9) k new c new′ w condition-reading) where
-      abbrev pub pattern-part : TermsAt Mode.pattern (part b (w .at))
-      pattern-part = record { terms = condition-in .pattern; rest = putRecords (condition-in .next) (g .there .rest); is = part-rest b (w .at) ∙ z .left; valid = condition-in .valid-pattern }
-
-      module _ (i : ℕ) (h : Passes (part b (w .at)) i (putRecords (condition-in .next) (g .there .rest))) where
-        pub pattern-fits : w .at + i ≤ length b
-        pattern-fits = omega (arith, h .fits, part-length b (w .at), z .fits)
-
-        pub condition-passed : Going b at k old n new′ (w .at + i) (w .count) r
-        condition-passed =
-            going-on (recordSites (condition-in .inner)) (z .appended) (record { records = condition-in .next; rest = g .there .rest; is = from-part b (w .at) i h; valid = condition-in .valid-next }) refl (condition-in .sites)
-
-  -- At the close.
-  close-done : CloseHere (g .there .records) (g .there .rest) → {w : Walk} → w .at ≡ p + 1 → w .count ≡ c → Collected b at k old n new w r
-  close-done h {w} e f = record {
-    appended = subst (λ (i : ℕ). Appended b old n i new (heldBy k (recordSites (r .records)))) (sym f)
-        (subst (λ (l : List Site). Appended b old n c new (heldBy k l)) (sym (g .whole ∙ (ap (λ (l : List Site). g .done ++ l) (h .sites) ∙ append-nil (g .done)))) (g .appended));
-    left = ap (λ (i : ℕ). drop i b) e ∙ (sym (drop-drop 1 p b) ∙ (ap (drop 1) (g .there .is) ∙ (h .is ∙ g .same)));
-    fits = omega (arith, e, going-within);
-  }
-
-  pub result-done : getD b p 0 ≡ 12 → {w : Walk} → w .at ≡ p + 1 → w .count ≡ c → Collected b at k old n new w r
-  result-done m = close-done (result-here (g .there .rest) (g .there .records) (g .there .valid) (sym mark-here ∙ m))
-
-  pub terms-done : getD b p 0 ≡ 15 → {w : Walk} → w .at ≡ p + 1 → w .count ≡ c → Collected b at k old n new w r
-  terms-done m = close-done (close-here (g .there .rest) (g .there .records) (g .there .valid) (sym mark-here ∙ m))
-
-  module _ (n7 : getD b p 0 ≡ 7 → ⊥) (n8 : getD b p 0 ≡ 8 → ⊥) (n9 : getD b p 0 ≡ 9 → ⊥) (n10 : getD b p 0 ≡ 10 → ⊥) (n11 : getD b p 0 ≡ 11 → ⊥) (n12 : getD b p 0 ≡ 12 → ⊥) (n15 : getD b p 0 ≡ 15 → ⊥) where
-    pub flat-in : FlatHere (g .there .records) (g .there .rest)
+  module _ (o : Other (getD b p 0)) where
+    pub flat-in : FlatHere (g .first) rest
     flat-in =
-        flat-here (g .there .rest) (g .there .records) (g .there .valid) (λ e. n7 (mark-here ∙ e)) (λ e. n8 (mark-here ∙ e)) (λ e. n9 (mark-here ∙ e)) (λ e. n10 (mark-here ∙ e)) (λ e. n11 (mark-here ∙ e)) (λ e. n12 (mark-here ∙ e)) (λ e. n15 (mark-here ∙ e))
+        flat-here rest (g .first) (g .valid) (λ e. o .0 .0 .0 .1 (inl (mark-here ∙ e))) (λ e. o .0 .0 .1 (mark-here ∙ e)) (λ e. o .0 .0 .0 .1 (inr (inl (mark-here ∙ e)))) (λ e. o .0 .1 (mark-here ∙ e)) (λ e. o .0 .0 .0 .1 (inr (inr (mark-here ∙ e)))) (λ e. o .1 (inl (mark-here ∙ e))) (λ e. o .1 (inr (mark-here ∙ e)))
 
     abbrev pub flat-part : TermsAt Mode.result (part b p)
-    flat-part = record { terms = flat-in .first; rest = g .there .rest; is = part-rest b p ∙ (g .there .is ∙ flat-in .is); valid = flat-in .valid }
+    flat-part = record { terms = flat-in .first; rest = rest; is = part-rest b p ∙ (g .is ∙ flat-in .is); valid = flat-in .valid }
 
-    module _ (i : ℕ) (h : Passes (part b p) i (putTerms (tail (flat-in .first)) (g .there .rest))) where
+    module _ (i : ℕ) (h : Passes (part b p) i (putTerms (tail (flat-in .first)) rest)) where
       pub flat-fits : (0 < i) × (p + i ≤ length b)
       flat-fits = (
-        omega (arith, h .fits, length-drop i (part b p), ap length (h .left), ap length (flat-part .is), tail-less (g .there .rest) (flat-in .first) (λ e. n15 (mark-here ∙ (ap (λ (l : List ℕ). getD l 0 0) (flat-in .is) ∙ e)))),
-        omega (arith, h .fits, part-length b p, going-within),
+        omega (arith, h .fits, length-drop i (part b p), ap length (h .left), ap length (flat-part .is), tail-less rest (flat-in .first) (λ e. o .1 (inr (mark-here ∙ (ap (λ (l : List ℕ). getD l 0 0) (flat-in .is) ∙ e))))),
+        omega (arith, h .fits, part-length b p, turn-within),
       )
 
-      pub flat-passed : Going b at k old n new (p + i) c r
-      unfolding heldBy putRecords
+      pub flat-passed : Going b at k old n new (p + i) c q r
+      unfolding putRecords
       flat-passed =
-          going-on [] (appended-nothing b new c (omega (arith, g .appended .fits, going-length))) (record { records = terms (tail (flat-in .first)); rest = g .there .rest; is = from-part b p i h; valid = flat-in .valid-next }) refl (flat-in .sites)
+          going-on [] nothing-listed (terms (tail (flat-in .first)) ∷ g .around) (from-part b p i h) (flat-in .valid-next, g .valid-around) (omega (arith, g .closes)) (flat-fits .1) (ap (λ (l : List Site). l ++ sites-around) (flat-in .sites))

@@ -25,6 +25,15 @@ pattern-sites (bracket s i r) d h = ap (λ (l : List Site). l ++ collectCallSite
 pattern-sites (call s f a r) d h = absurd (h .2)
 pattern-sites (block s a b r) d h = absurd (h .2)
 
+-- What is right in a pattern is right elsewhere.
+pub pattern-result : (p : Terms) (d : ℕ) → ValidTerms p Mode.pattern d → ValidTerms p Mode.result d
+pattern-result nil d h = tt
+pattern-result (symbol s x r) d h = (h .0, h .1, pattern-result r d (h .2))
+pattern-result (variable s k n r) d h = (h .0, h .1, pattern-result r d (h .2))
+pattern-result (bracket s i r) d h = (h .0, h .1, pattern-result i (suc d) (h .2), pattern-result r d (h .3))
+pattern-result (call s f a r) d h = absurd (h .2)
+pattern-result (block s a b r) d h = absurd (h .2)
+
 symbol-low : (s : Span) (x : Symbol) (k : List ℕ) → getD (putSymbol s x k) 0 0 ≤ 3
 unfolding putSymbol
 symbol-low s (character c) k = omega arith

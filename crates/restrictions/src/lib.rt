@@ -81,67 +81,53 @@ pub struct Walk {
     pub count: usize,
 }
 
+// How many lists of records the mark m of a bracket, a block or a condition opens.
+fn opened(m: u8) -> usize
+    ensures { λ r. ⌜ ((m ≡ 7) → r ≡ 1) × (((m ≡ 9) → r ≡ 2) × ((m ≡ 11) → r ≡ 2)) ⌝ }
+{
+    if m == 7 { 1 } else { 2 }
+}
+
 // Lists the sites of the records that stand from `at` up to their close, after n others: an outer call before those in
-// its argument, a sentence's result before its conditions. Patterns have none.
+// its argument, a sentence's result before its conditions. Patterns have none. The closes still to come are counted, so
+// that only a sentence, whose parts are listed out of order, takes stack.
 fn collect(b: &[u8], at: usize, sentence: usize, sites: &mut [u32], n: usize) -> Walk
     requires { ⌜ (length (now b) ≤ 32768) × (sentence < 4096) × RoomFor (now b) at n (length (now sites)) ⌝ }
     ensures { λ w. ⌜ ((r : RecordsAt (drop at (now (b .entry)))) → Collected (now (b .entry)) at sentence (now (sites .entry)) n (now (sites .exit)) w r) ⌝ }
 {
     let mut p = at;
     let mut k = n;
-    loop {
+    let mut closes: usize = 1;
+    while 0 < closes {
         let m = b[p];
         match m {
-            7 => {
-                let w = collect(b, p + 9, sentence, sites, k);
-                p = w.at;
-                k = w.count;
+            7 | 9 | 11 => {
+                closes += opened(m);
+                p += 9;
             }
             8 => {
-                let i = p + call_argument(&b[p..]);
                 sites[k] = entry(p, sentence);
-                let w = collect(b, i, sentence, sites, k + 1);
-                p = w.at;
-                k = w.count;
-            }
-            9 => {
-                let a = collect(b, p + 9, sentence, sites, k);
-                let w = collect(b, a.at, sentence, sites, a.count);
-                p = w.at;
-                k = w.count;
+                k += 1;
+                closes += 1;
+                p += call_argument(&b[p..]);
             }
             10 => {
                 let x = &b[p..];
-                let i = p + result_start(x);
-                let j = p + conditions_start(x);
-                let a = collect(b, i, sentence, sites, k);
-                let w = collect(b, j, sentence, sites, a.count);
+                let a = collect(b, p + result_start(x), sentence, sites, k);
+                let w = collect(b, p + conditions_start(x), sentence, sites, a.count);
                 p = a.at;
                 k = w.count;
             }
-            11 => {
-                let w = collect(b, p + 9, sentence, sites, k);
-                let i = w.at;
-                p = i + terms_len(&b[i..]);
-                k = w.count;
-            }
-            12 => {
-                return Walk {
-                    at: p + 1,
-                    count: k,
-                };
-            }
-            15 => {
-                return Walk {
-                    at: p + 1,
-                    count: k,
-                };
+            12 | 15 => {
+                closes -= 1;
+                p += 1;
             }
             _ => {
                 p += term_len(&b[p..]);
             }
         }
     }
+    Walk { at: p, count: k }
 }
 
 // Lists the sites of the terms at `at`, after n others; how many are listed then.

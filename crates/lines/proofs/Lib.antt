@@ -13,3 +13,7 @@ pub mod Repeating
 pub mod RemovedLines
 pub mod Whole
 pub mod RoomUsed
+pub mod AtMost
+pub mod Fallen
+pub mod Fits
+pub mod Short

@@ -1,6 +1,6 @@
 -- What asking verdicts leaves: the columns as they were, and a room that tells the truth.
 use Prim.Native.Nat.{ℕ, _+_, _-_, _*_, _/_, _%_, _<_, _≤_, min}
-use native.Mathlib.Nat.{min-le-left}
+use native.Mathlib.Nat.{min-le-left, min-le-right}
 use native.Mathlib.Omega.{arith}
 use mathlib.Core.Path.{_≡_, refl, sym, ap, subst, _∙_}
 use mathlib.Core.Bool.{Bool, true, false}
@@ -11,7 +11,7 @@ use lib.ListN.{length, getD, set, take, drop, length-set, length-drop, drop-of-l
 use lib.Seq.{take-all, drop-at, getD-take, getD-drop, getD-set-other, length-take-le}
 use borrow.Rule.Slice.PartMut.{midOf, postOf, putMid, same-len-mid}
 use Rattle.overlap.specs.declared.Room as lent
-use Rattle.overlap.specs.Memory.{Truthful, PairTold, EndTold, SplitTold, Remembers, Searched}
+use Rattle.overlap.specs.Memory.{Truthful, PairTold, EndTold, SplitTold, tables, Remembers, Searched}
 use Rattle.image.specs.Syntax.{Program}
 use Rattle.index.specs.declared.Plan.{Plan}
 use Rattle.index.specs.Layout.{lines, room}
@@ -31,20 +31,29 @@ truthful-empty : (Told : ℕ → ℕ → Type 0) (m : List ℕ) → ((k : ℕ) �
 truthful-empty Told m e from slots i l d = absurd (d (e (from + 2 * i)))
 
 -- So much is lent as there is.
-lent-fits : (bytes entries : ℕ) (p : Plan) → let r = lentFor bytes entries p in r .frames + 6 * r .slots ≤ entries
+lent-fits : (bytes entries : ℕ) (p : Plan) → let r = lentFor bytes entries p in tables r + 6 * r .slots ≤ entries
 unfolding lentFor
-lent-fits bytes entries p = omega (arith, min-le-left entries ((bytes - taken p) / 11))
+lent-fits bytes entries p =
+    let frames = min entries ((bytes - taken p) / 11) in
+    omega (arith, min-le-left entries ((bytes - taken p) / 11), min-le-right frames ((entries - frames) / 3))
 
-pub lent-is : (bytes entries : ℕ) (p : Plan) (free frames : ℕ) → free ≡ bytes - taken p → frames ≡ min entries (free / 11) → _≡_ {A = lent.Room} (record { frames = frames; slots = (entries - frames) / 6 }) (lentFor bytes entries p)
+-- How so many entries are divided, of which so many are for open splits.
+abbrev divided : ℕ → ℕ → lent.Room
+divided entries frames = let begun = min frames ((entries - frames) / 3) in record { frames = frames; begun = begun; slots = (entries - frames - begun) / 6 }
+
+pub lent-is : (bytes entries : ℕ) (p : Plan) (free frames begun : ℕ) → free ≡ bytes - taken p → frames ≡ min entries (free / 11) → begun ≡ min frames ((entries - frames) / 3)
+    → _≡_ {A = lent.Room} (record { frames = frames; begun = begun; slots = (entries - frames - begun) / 6 }) (lentFor bytes entries p)
 unfolding lentFor
-lent-is bytes entries p free frames e h = ap {B = lent.Room} (λ (n : ℕ). record { frames = n; slots = (entries - n) / 6 }) (h ∙ ap (λ (n : ℕ). min entries (n / 11)) e)
+lent-is bytes entries p free frames begun e h g =
+    ap {B = lent.Room} (λ (n : ℕ). record { frames = frames; begun = n; slots = (entries - frames - n) / 6 }) g
+    ∙ ap {B = lent.Room} (divided entries) (h ∙ ap (λ (n : ℕ). min entries (n / 11)) e)
 
 remembers-kept : {b old new : List ℕ} {r : lent.Room} → length new ≡ length old → ((k : ℕ) → getD new k 0 ≡ getD old k 0) → Remembers b old r → Remembers b new r
 remembers-kept {b} {old} {new} {r} l e h = record {
   fits = omega (arith, l, h .fits);
-  pairs = truthful-kept (PairTold b) old new e (r .frames) (r .slots) (h .pairs);
-  ends = truthful-kept (EndTold b) old new e (r .frames + 2 * r .slots) (r .slots) (h .ends);
-  splits = truthful-kept (SplitTold b) old new e (r .frames + 4 * r .slots) (r .slots) (h .splits);
+  pairs = truthful-kept (PairTold b) old new e (tables r) (r .slots) (h .pairs);
+  ends = truthful-kept (EndTold b) old new e (tables r + 2 * r .slots) (r .slots) (h .ends);
+  splits = truthful-kept (SplitTold b) old new e (tables r + 4 * r .slots) (r .slots) (h .splits);
 }
 
 -- ---- the room is as it was, or empty
@@ -64,9 +73,9 @@ module _ (b : List ℕ) (p : Plan) where
       let r = lentFor (length b) (length m - room p) p in
       record {
         fits = omega (arith, lent-fits (length b) (length m - room p) p, length-drop (room p) m);
-        pairs = truthful-empty (PairTold b) (drop (room p) m) empty (r .frames) (r .slots);
-        ends = truthful-empty (EndTold b) (drop (room p) m) empty (r .frames + 2 * r .slots) (r .slots);
-        splits = truthful-empty (SplitTold b) (drop (room p) m) empty (r .frames + 4 * r .slots) (r .slots);
+        pairs = truthful-empty (PairTold b) (drop (room p) m) empty (tables r) (r .slots);
+        ends = truthful-empty (EndTold b) (drop (room p) m) empty (tables r + 2 * r .slots) (r .slots);
+        splits = truthful-empty (SplitTold b) (drop (room p) m) empty (tables r + 4 * r .slots) (r .slots);
       }
     where
       by : (k : ℕ) → room p ≤ k → (t : Bool) → ltb k (length m) ≡ t → getD m k 0 ≡ 0

@@ -12,10 +12,12 @@ use Rattle.index.specs.Layout.{room}
 abbrev pub taken : Plan → ℕ
 taken p = 13 * p .functions + 12 * p .sentences + 12 * p .sites
 
--- For a body of so many bytes and so many entries: one for each `e.` variable that it can have, and the tables share the others.
+-- For a body of so many bytes and so many entries: one for each `e.` variable that it can have. Of the others a third at most is for beginnings, and the tables share the rest.
 unfoldable pub lentFor : ℕ → ℕ → Plan → Room
 lentFor bytes entries p =
-    let frames = min entries ((bytes - taken p) / 11) in record { frames = frames; slots = (entries - frames) / 6 }
+    let frames = min entries ((bytes - taken p) / 11) in
+    let begun = min frames ((entries - frames) / 3) in
+    record { frames = frames; begun = begun; slots = (entries - frames - begun) / 6 }
 
 -- What searches in the body b have left in the room of m.
 abbrev pub Remembering : List ℕ → Plan → List ℕ → Type 0

@@ -34,8 +34,14 @@ fn lent_for(bytes: usize, entries: usize, plan: Plan) -> Room
     let taken = 13 * plan.functions + 12 * plan.sentences + 12 * plan.sites;
     let free = if taken < bytes { bytes - taken } else { 0 };
     let frames = least(entries, free / 11);
-    let slots = (entries - frames) / 6;
-    Room { frames, slots }
+    let others = entries - frames;
+    let begun = least(frames, others / 3);
+    let slots = (others - begun) / 6;
+    Room {
+        frames,
+        begun,
+        slots,
+    }
 }
 
 // Of the pattern that stands at `pattern` of the body b and the site i of a list of plain sites.

@@ -14,6 +14,6 @@ pub mod Table
 pub mod Readings
 pub mod Heads
 pub mod Turns
-pub mod Plugging
 pub mod Memory
 pub mod Values
+pub mod Plugging

@@ -17,7 +17,7 @@ use Rattle.symbols.proofs.Parts.{part-rest}
 use Rattle.overlap.specs.declared.Verdict.{Verdict}
 use Rattle.overlap.specs.declared.Room.{Room}
 use Rattle.overlap.specs.Search.{absorbingSplit, sequence, patternsOverlap}
-use Rattle.overlap.specs.Memory.{Truthful, keyOf, codeOf, PairTold, EndTold, SplitTold, costing, Remembers, Searched, Lends, Recalled, Noted}
+use Rattle.overlap.specs.Memory.{Truthful, keyOf, codeOf, PairTold, EndTold, SplitTold, costing, Remembers, Searched, Lends, Recalled, Noted, tables}
 use Rattle.overlap.proofs.Readings.{part, at-part}
 
 -- ---- a slot is written, or none
@@ -85,38 +85,41 @@ noted-elsewhere Told {old} {new} from' slots' t n d =
 -- ---- one table of three is written
 
 module _ {b old new : List ℕ} {r : Room} {key value : ℕ} (m : Remembers b old r) where
-  pub pair-noted : Noted old new (r .frames) (r .slots) key value → PairTold b key value → Searched b r (r .frames) old new
+  pub pair-noted : Noted old new (tables r) (r .slots) key value → PairTold b key value → Searched b r (r .frames) old new
   pair-noted n h = record {
     length = n .length;
-    below = n .before;
+    below = λ k l. n .before k (omega arith);
+    beginnings = λ k l u. n .before (r .frames + k) (omega arith);
     remembers = record {
       fits = omega (arith, m .fits, n .length);
       pairs = noted-truthful (PairTold b) (m .pairs) n h;
-      ends = noted-elsewhere (EndTold b) (r .frames + 2 * r .slots) (r .slots) (m .ends) n (inr (omega arith));
-      splits = noted-elsewhere (SplitTold b) (r .frames + 4 * r .slots) (r .slots) (m .splits) n (inr (omega arith));
+      ends = noted-elsewhere (EndTold b) (tables r + 2 * r .slots) (r .slots) (m .ends) n (inr (omega arith));
+      splits = noted-elsewhere (SplitTold b) (tables r + 4 * r .slots) (r .slots) (m .splits) n (inr (omega arith));
     };
   }
 
-  pub end-noted : Noted old new (r .frames + 2 * r .slots) (r .slots) key value → EndTold b key value → Searched b r (r .frames) old new
+  pub end-noted : Noted old new (tables r + 2 * r .slots) (r .slots) key value → EndTold b key value → Searched b r (r .frames) old new
   end-noted n h = record {
     length = n .length;
     below = λ k l. n .before k (omega arith);
+    beginnings = λ k l u. n .before (r .frames + k) (omega arith);
     remembers = record {
       fits = omega (arith, m .fits, n .length);
-      pairs = noted-elsewhere (PairTold b) (r .frames) (r .slots) (m .pairs) n (inl (omega arith));
+      pairs = noted-elsewhere (PairTold b) (tables r) (r .slots) (m .pairs) n (inl (omega arith));
       ends = noted-truthful (EndTold b) (m .ends) n h;
-      splits = noted-elsewhere (SplitTold b) (r .frames + 4 * r .slots) (r .slots) (m .splits) n (inr (omega arith));
+      splits = noted-elsewhere (SplitTold b) (tables r + 4 * r .slots) (r .slots) (m .splits) n (inr (omega arith));
     };
   }
 
-  pub split-noted : Noted old new (r .frames + 4 * r .slots) (r .slots) key value → SplitTold b key value → Searched b r (r .frames) old new
+  pub split-noted : Noted old new (tables r + 4 * r .slots) (r .slots) key value → SplitTold b key value → Searched b r (r .frames) old new
   split-noted n h = record {
     length = n .length;
     below = λ k l. n .before k (omega arith);
+    beginnings = λ k l u. n .before (r .frames + k) (omega arith);
     remembers = record {
       fits = omega (arith, m .fits, n .length);
-      pairs = noted-elsewhere (PairTold b) (r .frames) (r .slots) (m .pairs) n (inl (omega arith));
-      ends = noted-elsewhere (EndTold b) (r .frames + 2 * r .slots) (r .slots) (m .ends) n (inl (omega arith));
+      pairs = noted-elsewhere (PairTold b) (tables r) (r .slots) (m .pairs) n (inl (omega arith));
+      ends = noted-elsewhere (EndTold b) (tables r + 2 * r .slots) (r .slots) (m .ends) n (inl (omega arith));
       splits = noted-truthful (SplitTold b) (m .splits) n h;
     };
   }
@@ -156,13 +159,13 @@ module _ (b : List ℕ) (n : ℕ) where
 
 -- What a slot of a key that is not empty says.
 module _ {b m : List ℕ} {r : Room} (h : Remembers b m r) (n : ℕ) where
-  pub pair-recalled : (p q : ℕ) → p < 32768 → q < 32768 → Recalled m (r .frames) (r .slots) (keyOf p q) n → (n ≡ 0 → ⊥) → PairIs b n p q
+  pub pair-recalled : (p q : ℕ) → p < 32768 → q < 32768 → Recalled m (tables r) (r .slots) (keyOf p q) n → (n ≡ 0 → ⊥) → PairIs b n p q
   pair-recalled p q l u s z = told (PairTold b) (h .pairs) s (key-nonzero p q) z p q l u refl
 
-  pub split-recalled : (p q : ℕ) → p < 32768 → q < 32768 → Recalled m (r .frames + 4 * r .slots) (r .slots) (keyOf p q) n → (n ≡ 0 → ⊥) → SplitIs b n p q
+  pub split-recalled : (p q : ℕ) → p < 32768 → q < 32768 → Recalled m (tables r + 4 * r .slots) (r .slots) (keyOf p q) n → (n ≡ 0 → ⊥) → SplitIs b n p q
   split-recalled p q l u s z = told (SplitTold b) (h .splits) s (key-nonzero p q) z p q l u refl
 
-  pub end-recalled : (p : ℕ) → Recalled m (r .frames + 2 * r .slots) (r .slots) (p + 1) n → (n ≡ 0 → ⊥) → EndIs b n p
+  pub end-recalled : (p : ℕ) → Recalled m (tables r + 2 * r .slots) (r .slots) (p + 1) n → (n ≡ 0 → ⊥) → EndIs b n p
   end-recalled p s z = told (EndTold b) (h .ends) s (λ e. omega arith) z p (omega arith)
 
 -- ---- one search after another
@@ -172,34 +175,38 @@ lends-less l h = record { small = h .small; remembers = h .remembers; within = o
 
 module _ {b m : List ℕ} {r : Room} where
   pub searched-same : Remembers b m r → (top : ℕ) → Searched b r top m m
-  searched-same h top = record { length = refl; below = λ k l. refl; remembers = h }
+  searched-same h top = record { length = refl; below = λ k l. refl; beginnings = λ k l u. refl; remembers = h }
 
   pub searched-then : {n o : List ℕ} {top : ℕ} → Searched b r top m n → Searched b r top n o → Searched b r top m o
-  searched-then s t = record { length = t .length ∙ s .length; below = λ k l. t .below k l ∙ s .below k l; remembers = t .remembers }
+  searched-then s t = record { length = t .length ∙ s .length; below = λ k l. t .below k l ∙ s .below k l; beginnings = λ k l u. t .beginnings k l u ∙ s .beginnings k l u; remembers = t .remembers }
 
   pub searched-less : {n : List ℕ} {top top' : ℕ} → top' ≤ top → Searched b r top m n → Searched b r top' m n
-  searched-less h s = record { length = s .length; below = λ k l. s .below k (omega arith); remembers = s .remembers }
+  searched-less h s = record { length = s .length; below = λ k l. s .below k (omega arith); beginnings = λ k l u. s .beginnings k (omega arith) u; remembers = s .remembers }
 
   pub searched-lends : {n : List ℕ} {top top' : ℕ} → Lends b m r top → Searched b r top' m n → Lends b n r top
   searched-lends h s = record { small = h .small; remembers = s .remembers; within = h .within }
 
-  -- An entry of the stack is written: the tables are untouched.
-  pub entry-written : (base k : ℕ) → Remembers b m r → base ≤ k → k < r .frames → (v : ℕ) → Searched b r base m (set m k v)
-  entry-written base k h l u v =
+  -- An entry before the tables is written, neither that of an open split nor its beginning.
+  pub entry-set : (base k : ℕ) → Remembers b m r → base ≤ k → k < tables r → (r .frames ≤ k → r .frames + base ≤ k) → (v : ℕ) → Searched b r base m (set m k v)
+  entry-set base k h l u f v =
       let other : (j : ℕ) → (j ≡ k → ⊥) → getD (set m k v) j 0 ≡ getD m j 0 = λ j n. getD-set-other m k j v 0 n in
       record {
         length = length-set m k v;
         below = λ j d. other j (λ e. omega arith);
+        beginnings = λ j d z. other (r .frames + j) (λ e. let g = f (omega (arith, e)) in omega (arith, e, g, d));
         remembers = record {
           fits = simp length-set (h .fits);
-          pairs = truthful-same (PairTold b) m (set m k v) (r .frames) (r .slots) (λ j d z. other j (λ e. omega arith)) (h .pairs);
-          ends = truthful-same (EndTold b) m (set m k v) (r .frames + 2 * r .slots) (r .slots) (λ j d z. other j (λ e. omega arith)) (h .ends);
-          splits = truthful-same (SplitTold b) m (set m k v) (r .frames + 4 * r .slots) (r .slots) (λ j d z. other j (λ e. omega arith)) (h .splits);
+          pairs = truthful-same (PairTold b) m (set m k v) (tables r) (r .slots) (λ j d z. other j (λ e. omega arith)) (h .pairs);
+          ends = truthful-same (EndTold b) m (set m k v) (tables r + 2 * r .slots) (r .slots) (λ j d z. other j (λ e. omega arith)) (h .ends);
+          splits = truthful-same (SplitTold b) m (set m k v) (tables r + 4 * r .slots) (r .slots) (λ j d z. other j (λ e. omega arith)) (h .splits);
         };
       }
 
-  pub frame-written : (top : ℕ) → Lends b m r top → top < r .frames → (v : ℕ) → Searched b r top m (set m top v)
-  frame-written top h u v = entry-written top top (h .remembers) (omega arith) u v
+  pub entry-written : (base k : ℕ) → Remembers b m r → base ≤ k → k < r .frames → (v : ℕ) → Searched b r base m (set m k v)
+  entry-written base k h l u v = entry-set base k h l (omega (arith, u)) (λ f. absurd (omega (arith, f, u))) v
+
+  pub beginning-written : (top : ℕ) → Remembers b m r → top < r .begun → (v : ℕ) → Searched b r top m (set m (r .frames + top) v)
+  beginning-written top h u v = entry-set top (r .frames + top) h (omega arith) (omega (arith, u)) (λ f. omega arith) v
 
 -- ---- the place after a term
 

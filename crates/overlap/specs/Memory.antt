@@ -1,4 +1,4 @@
--- What a search keeps in the entries that it is lent: splits that are open, then three tables. "Each slot that is not zero tells the truth", whatever was asked before.
+-- What a search keeps in the entries that it is lent: splits that are open, how the first of them began, then three tables. "Each slot that is not zero tells the truth", whatever was asked before.
 use Prim.Native.Nat.{ℕ, suc, _+_, _-_, _*_, _/_, _%_, _<_, _≤_}
 use mathlib.Core.Path.{_≡_}
 use mathlib.Core.Bool.{cond}
@@ -51,17 +51,22 @@ SplitTold b k n =
     (p q : ℕ) → p < 32768 → q < 32768 → k ≡ keyOf p q → (x : TermsAt Mode.pattern (drop p b)) (y : TermsAt Mode.pattern (drop q b))
     → (v : Verdict) × (n % 4 ≡ codeOf v) × ((f : ℕ) → absorbingSplit sequence f (x .terms) (y .terms) ≡ costing (n / 4) v f)
 
--- The entries m, lent to searches in the body b: `frames` for open splits, then `slots` each for pairs, ends and splits.
-pub record Remembers (b m : List ℕ) (r : Room) : Type 0 where
-  pub fits : r .frames + 6 * r .slots ≤ length m
-  pub pairs : Truthful (PairTold b) m (r .frames) (r .slots)
-  pub ends : Truthful (EndTold b) m (r .frames + 2 * r .slots) (r .slots)
-  pub splits : Truthful (SplitTold b) m (r .frames + 4 * r .slots) (r .slots)
+-- Where the tables begin.
+abbrev pub tables : Room → ℕ
+tables r = r .frames + r .begun
 
--- A search has left the entries so: those of the splits open before it, below `top`, are as they were.
+-- The entries m, lent to searches in the body b: `frames` for open splits, `begun` for the beginnings of the first of them, then `slots` each for pairs, ends and splits.
+pub record Remembers (b m : List ℕ) (r : Room) : Type 0 where
+  pub fits : tables r + 6 * r .slots ≤ length m
+  pub pairs : Truthful (PairTold b) m (tables r) (r .slots)
+  pub ends : Truthful (EndTold b) m (tables r + 2 * r .slots) (r .slots)
+  pub splits : Truthful (SplitTold b) m (tables r + 4 * r .slots) (r .slots)
+
+-- A search has left the entries so: those of the splits open before it, below `top`, are as they were, and so are their beginnings.
 pub record Searched (b : List ℕ) (r : Room) (top : ℕ) (old new : List ℕ) : Type 0 where
   pub length : length new ≡ length old
   pub below : (k : ℕ) → k < top → getD new k 0 ≡ getD old k 0
+  pub beginnings : (k : ℕ) → k < top → k < r .begun → getD new (r .frames + k) 0 ≡ getD old (r .frames + k) 0
   pub remembers : Remembers b new r
 
 -- What a search requires of the entries: the splits below `top` are open.

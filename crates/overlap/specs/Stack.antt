@@ -1,5 +1,5 @@
--- Splits that are open on the explicit stack, one entry each: "an equal search with an explicit stack".
-use Prim.Native.Nat.{ℕ, suc, _+_, _*_, _/_, _%_, _<_, _≤_}
+-- Splits that are open on the explicit stack, one entry each, and another for how each of the first began: "an equal search with an explicit stack".
+use Prim.Native.Nat.{ℕ, suc, _+_, _-_, _*_, _/_, _%_, _<_, _≤_}
 use mathlib.Core.Path.{_≡_}
 use mathlib.Core.Bool.{Bool, true, false, cond}
 use mathlib.Core.List.{List}
@@ -17,6 +17,7 @@ use Rattle.overlap.specs.declared.search.Opening.{Opening}
 use Rattle.overlap.specs.declared.search.Leading.{Leading}
 use Rattle.overlap.specs.Search.{found, ends, afterSplit, splitsFrom, absorbingSplit, sequence}
 use Rattle.overlap.specs.Steps.{behind}
+use Rattle.overlap.specs.Memory.{keyOf, codeOf, SplitTold}
 
 -- ---- where the heads of two sequences lead
 
@@ -49,44 +50,63 @@ headsOf h = cond (eqb (h / 2 % 2) 1) Unknown Overlap
 abbrev pub soFarOf : ℕ → Verdict
 soFarOf h = cond (eqb (h % 2) 1) Unknown Disjoint
 
+-- Of a beginning: the place of the first end, and the fuel.
+abbrev pub firstOf : ℕ → ℕ
+firstOf g = g / 8192 % 32768
+
+abbrev pub fuelOf : ℕ → ℕ
+fuelOf g = g % 8192
+
 -- One for Unknown.
 abbrev pub bitOf : Verdict → ℕ
 bitOf Disjoint = 0
 bitOf Overlap = 0
 bitOf Unknown = 1
 
--- The answer of an open split, once its end in turn, y, has the answer q.
+-- The answer of an open split, once its end in turn, y, has the answer q; and behind its heads.
+unfoldable pub continued : ℕ → Terms → Terms → Found → Found
+continued h x y q = afterSplit (q .verdict) (q .fuel) (soFarOf h) (λ v f. splitsFrom sequence x (drop 1 (ends y)) v f)
+
 unfoldable pub resumed : ℕ → Terms → Terms → Found → Found
-resumed h x y q =
-    behind (headsOf h) (afterSplit (q .verdict) (q .fuel) (soFarOf h) (λ v f. splitsFrom sequence x (drop 1 (ends y)) v f))
+resumed h x y q = behind (headsOf h) (continued h x y q)
 
--- The splits at the entries from `base` up to a top make r of the answer q to the pair in turn; all are at later places than those that sum to `from`.
-pub data Plugs (b m : List ℕ) (base from : ℕ) : ℕ → Found → Found → Type 0 where
-  plugs-none : {q : Found} → Plugs b m base from base q q
-  plugs-split : {t : ℕ} {q r : Found} → base ≤ t → from < restOf (getD m t 0) + otherOf (getD m t 0)
+-- The split h with the beginning g answers as it would from its first end on.
+pub record Began (b : List ℕ) (h g : ℕ) (x y : Terms) (q : Found) : Type 0 where
+  pub first : TermsAt Mode.pattern (drop (firstOf g) b)
+  pub whole : absorbingSplit sequence (fuelOf g) x (first .terms) ≡ continued h x y q
+
+-- The splits at the entries from `base` up to a top make w of the answer q to the pair in turn; all are at later places than those that sum to `from`.
+pub data Plugs (b m : List ℕ) (r : Room) (base from : ℕ) : ℕ → Found → Found → Type 0 where
+  plugs-none : {q : Found} → Plugs b m r base from base q q
+  plugs-split : {t : ℕ} {q w : Found} → base ≤ t → from < restOf (getD m t 0) + otherOf (getD m t 0)
       → (x : TermsAt Mode.pattern (drop (restOf (getD m t 0)) b)) (y : TermsAt Mode.pattern (drop (otherOf (getD m t 0)) b))
-      → Plugs b m base from t (resumed (getD m t 0) (x .terms) (y .terms) q) r → Plugs b m base from (suc t) q r
+      → (t < r .begun → Began b (getD m t 0) (getD m (r .frames + t) 0) (x .terms) (y .terms) q)
+      → Plugs b m r base from t (resumed (getD m t 0) (x .terms) (y .terms) q) w → Plugs b m r base from (suc t) q w
 
--- Some answer of the pair in turn with a verdict can be plugged in.
-pub record Stacked (b m : List ℕ) (base top : ℕ) (v : Verdict) : Type 0 where
+-- An answer of the pair in turn can be plugged in.
+pub record Stacked (b m : List ℕ) (r : Room) (base top : ℕ) (v : Verdict) (fuel : ℕ) : Type 0 where
   pub from : ℕ
-  pub fuel : ℕ
   pub result : Found
-  pub plugs : Plugs b m base from top (found v fuel) result
+  pub plugs : Plugs b m r base from top (found v fuel) result
+
+-- What is remembered of the split h at the entry k is true, once it has a verdict and some fuel is left.
+abbrev pub Closes : List ℕ → List ℕ → Room → ℕ → ℕ → Verdict → ℕ → Type 0
+Closes b m r h k v fuel =
+    let g = getD m (r .frames + k) 0 in k < r .begun → 0 < fuel → SplitTold b (keyOf (restOf h) (firstOf g)) (4 * (fuelOf g - fuel) + codeOf v)
 
 -- The split below the top has its next end in turn.
-pub record InTurn (b m : List ℕ) (base from top fuel : ℕ) (r : Found) : Type 0 where
+pub record InTurn (b m : List ℕ) (r : Room) (base from top fuel : ℕ) (w : Found) : Type 0 where
   pub split : ℕ
   pub is : top ≡ suc split
   pub above : base ≤ split
   pub further : from < restOf (getD m split 0) + otherOf (getD m split 0)
   pub rest : TermsAt Mode.pattern (drop (restOf (getD m split 0)) b)
   pub other : TermsAt Mode.pattern (drop (otherOf (getD m split 0)) b)
-  pub plugs : Plugs b m base from top (sequence fuel (rest .terms) (other .terms)) r
+  pub plugs : Plugs b m r base from top (sequence fuel (rest .terms) (other .terms)) w
 
 -- Where an answer leads: out with a verdict, or up to a split.
-abbrev pub Rises : List ℕ → List ℕ → ℕ → ℕ → ℕ → Verdict → ℕ → Found → Type 0
-Rises b m base from top v fuel r = ((top ≡ base) × (r ≡ found v fuel)) ⊎ InTurn b m base from top fuel r
+abbrev pub Rises : List ℕ → List ℕ → Room → ℕ → ℕ → ℕ → Verdict → ℕ → Found → Type 0
+Rises b m r base from top v fuel w = ((top ≡ base) × (w ≡ found v fuel)) ⊎ InTurn b m r base from top fuel w
 
 -- ---- a split on the stack
 
@@ -101,14 +121,19 @@ abbrev pub Sound : List ℕ → Leading → Type 0
 Sound b (Leading.Ended q) = Unit {0}
 Sound b (Leading.Split o) = OpensAt b o
 
+-- A split stands at the top of the stack, and so does its beginning, if there is an entry for it.
+pub record Entered (m : List ℕ) (r : Room) (top rest other fuel : ℕ) (heads : Verdict) : Type 0 where
+  pub rest-is : restOf (getD m top 0) ≡ rest
+  pub other-is : otherOf (getD m top 0) ≡ other
+  pub heads-is : headsOf (getD m top 0) ≡ heads
+  pub so-far-is : soFarOf (getD m top 0) ≡ Disjoint
+  pub beginning-is : top < r .begun → (firstOf (getD m (r .frames + top) 0) ≡ other) × (fuelOf (getD m (r .frames + top) 0) ≡ fuel)
+
 -- What has become of the heads: an answer, or a split that stands at the top of the stack.
 pub record Pushed (b m : List ℕ) (r : Room) (top fuel from : ℕ) (x y : Terms) (o : Opening) : Type 0 where
   pub opens : Opens b fuel from x y o
   pub room : top < r .frames
-  pub rest-is : restOf (getD m top 0) ≡ o .rest
-  pub other-is : otherOf (getD m top 0) ≡ o .other
-  pub heads-is : headsOf (getD m top 0) ≡ o .heads
-  pub so-far-is : soFarOf (getD m top 0) ≡ Disjoint
+  pub entered : Entered m r top (o .rest) (o .other) (o .fuel) (o .heads)
 
 abbrev pub Settled : List ℕ → List ℕ → Room → ℕ → ℕ → ℕ → Terms → Terms → Leading → Type 0
 Settled b m r top fuel from x y (Leading.Ended q) = q ≡ sequence fuel x y

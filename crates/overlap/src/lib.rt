@@ -26,9 +26,11 @@ pub struct Found {
     pub fuel: u32,
 }
 
-// How the entries lent to a search are divided: so many for open splits, then three tables of so many slots.
+// How the entries lent to a search are divided: so many for open splits, so many for how the first of them began, then three
+// tables of so many slots.
 pub struct Room {
     pub frames: usize,
+    pub begun: usize,
     pub slots: usize,
 }
 
@@ -36,7 +38,7 @@ pub struct Room {
 const OVERLAP_FUEL: u32 = 4096;
 
 // How many splits may be open as calls, before the stack in the room serves.
-const NATIVE_DEPTH: u32 = 6;
+const NATIVE_DEPTH: u32 = 4;
 
 pub fn is_overlap(v: Verdict) -> bool
     ensures { λ r. ⌜ r ≡ isOverlap v ⌝ }

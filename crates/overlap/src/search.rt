@@ -15,8 +15,8 @@ use crate::slots::note;
 use crate::slots::recall;
 use crate::slots::verdict_of;
 use crate::stack::other_of;
+use crate::stack::push;
 use crate::stack::rest_of;
-use crate::stack::split_of;
 use crate::stack::unwind;
 use crate::terms::leftover_overlap;
 use crate::terms::term_end;
@@ -61,14 +61,15 @@ pub fn pair_overlap(
     ensures answers { λ r. ⌜ ((x : TermsAt Mode.pattern (drop p (now (b .entry)))) (y : TermsAt Mode.pattern (drop q (now (b .entry)))) → r ≡ patternsOverlap (x .terms) (y .terms)) ⌝ }
     ensures keeps { λ _. ⌜ Searched (now (b .entry)) lent top (now (room .entry)) (now (room .exit)) ⌝ }
 {
+    let from = lent.frames + lent.begun;
     let key = key_of(p, q);
-    let known = recall(room, lent.frames, lent.slots, key);
+    let known = recall(room, from, lent.slots, key);
     if known != 0 {
         return verdict_of(known);
     }
     let found = sequence(b, p, q, OVERLAP_FUEL, deep, top, room, lent);
     let verdict = found.verdict;
-    note(room, lent.frames, lent.slots, key, code_of(verdict));
+    note(room, from, lent.slots, key, code_of(verdict));
     verdict
 }
 
@@ -246,7 +247,7 @@ fn absorbing_split(
     ensures answers { λ r. ⌜ ((x : TermsAt Mode.pattern (drop rest (now (b .entry)))) (y : TermsAt Mode.pattern (drop other (now (b .entry)))) → r ≡ absorbingSplit sequence fuel (x .terms) (y .terms)) ⌝ }
     ensures keeps { λ _. ⌜ Searched (now (b .entry)) lent top (now (room .entry)) (now (room .exit)) ⌝ }
 {
-    let from = lent.frames + 4 * lent.slots;
+    let from = lent.frames + lent.begun + 4 * lent.slots;
     let key = key_of(rest, other);
     let known = recall(room, from, lent.slots, key);
     if known != 0 {
@@ -308,7 +309,8 @@ pub fn sequence(
     }
 }
 
-// A split becomes an entry of the stack; where none is left it is searched by calls, and so the search always goes on.
+// A split that is not remembered becomes an entry of the stack; where none is left it is searched by calls, and so the search
+// always goes on.
 fn settle(b: &[u8], h: Leading, top: usize, room: &mut [u32], lent: Room) -> Leading
     requires { ⌜ Sound (now b) h × Lends (now b) (now room) lent top ⌝ }
     ensures leads { λ r. ⌜ ((fuel from : ℕ) (x y : Terms) → Leads (now (b .entry)) fuel from x y h → Settled (now (b .entry)) (now (room .exit)) lent top fuel from x y r) ⌝ }
@@ -318,8 +320,15 @@ fn settle(b: &[u8], h: Leading, top: usize, room: &mut [u32], lent: Room) -> Lea
         Leading::Ended(found) => Leading::Ended(found),
         Leading::Split(o) => {
             let heads = o.heads;
+            let from = lent.frames + lent.begun + 4 * lent.slots;
+            let known = recall(room, from, lent.slots, key_of(o.rest, o.other));
+            if known != 0 {
+                let told = recalled(known, o.fuel);
+                let verdict = told.verdict;
+                return Leading::Ended(behind_heads(heads, verdict, told.fuel));
+            }
             if top < lent.frames {
-                room[top] = split_of(o.rest, o.other, heads, Verdict::Disjoint);
+                push(o.rest, o.other, o.fuel, heads, top, room, lent);
                 return Leading::Split(o);
             }
             let found = absorbing_split(b, o.rest, o.other, o.fuel, 0, top, room, lent);
@@ -374,7 +383,7 @@ fn search(
                 if is_out(verdict, left) {
                     return found;
                 }
-                let up = unwind(b, verdict, base, top, room, lent);
+                let up = unwind(b, verdict, left, base, top, room, lent);
                 top = up.top;
                 if top == base {
                     let last = up.verdict;

@@ -5,15 +5,19 @@ use crate::behind_verdict;
 use crate::ended_by;
 use crate::is_overlap;
 use crate::remember;
+use crate::slots::code_of;
+use crate::slots::key_of;
+use crate::slots::note;
 use crate::terms::term_end;
 ghost use mathlib.Core.Path.{_≡_};
-ghost use Prim.Native.Nat.{ℕ, _+_, _<_, _≤_};
-ghost use lib.ListN.{length};
+ghost use Prim.Native.Nat.{ℕ, _+_, _*_, _<_, _≤_};
+ghost use mathlib.Core.List.{List};
+ghost use lib.ListN.{length, getD};
 ghost use Rattle.overlap.specs.declared.Found.{Found};
 ghost use Rattle.overlap.specs.Search.{found};
 ghost use Rattle.overlap.specs.declared.Verdict.the-variants.{Disjoint, Overlap};
-ghost use Rattle.overlap.specs.Memory.{Lends, Searched};
-ghost use Rattle.overlap.specs.Stack.{restOf, otherOf, headsOf, soFarOf, Plugs, Stacked, Rises, bitOf};
+ghost use Rattle.overlap.specs.Memory.{Lends, Remembers, Searched, tables};
+ghost use Rattle.overlap.specs.Stack.{restOf, otherOf, headsOf, soFarOf, firstOf, fuelOf, Entered, Closes, Plugs, Stacked, Rises, bitOf};
 
 // Where an answer leads: past all splits, or to the one below `top`, whose next end is in turn.
 pub struct Up {
@@ -70,17 +74,70 @@ pub fn so_far_of(split: u32) -> Verdict
     Verdict::Disjoint
 }
 
+// How a split begins: the place of its first end, and the fuel.
+fn beginning_of(first: usize, fuel: u32) -> u32
+    requires { ⌜ (first < 32768) × (fuel ≤ 4096) ⌝ }
+    ensures { λ r. ⌜ (firstOf r ≡ first) × (fuelOf r ≡ fuel) ⌝ }
+{
+    8192 * (first as u32) + fuel
+}
+
+fn first_of(beginning: u32) -> usize
+    ensures { λ r. ⌜ (r ≡ firstOf beginning) × (r < 32768) ⌝ }
+{
+    (beginning / 8192 % 32768) as usize
+}
+
+// Opens a split at the top, with its beginning if there is an entry for it.
+pub fn push(
+    rest: usize,
+    other: usize,
+    fuel: u32,
+    heads: Verdict,
+    top: usize,
+    room: &mut [u32],
+    lent: Room,
+)
+    requires { ⌜ (rest < 32768) × (other < 32768) × (fuel ≤ 4096) × (heads ≡ Disjoint → ⊥) × (top < lent .frames) × (tables lent + 6 * lent .slots ≤ length (now room)) ⌝ }
+    ensures opens { λ _. ⌜ Entered (now (room .exit)) lent top rest other fuel heads ⌝ }
+    ensures keeps { λ _. ⌜ ((b : List ℕ) → Remembers b (now (room .entry)) lent → Searched b lent top (now (room .entry)) (now (room .exit))) ⌝ }
+{
+    room[top] = split_of(rest, other, heads, Verdict::Disjoint);
+    if top < lent.begun {
+        let at = lent.frames + top;
+        room[at] = beginning_of(other, fuel);
+    }
+}
+
+// Remembers what the split at the entry k spent, if that is known and some fuel is left.
+fn close_split(split: u32, k: usize, v: Verdict, fuel: u32, room: &mut [u32], lent: Room)
+    requires { ⌜ (tables lent + 6 * lent .slots ≤ length (now room)) × (k < lent .begun → fuel ≤ fuelOf (getD (now room) (lent .frames + k) 0)) ⌝ }
+    ensures { λ _. ⌜ ((b : List ℕ) → Remembers b (now (room .entry)) lent → Closes b (now (room .entry)) lent split k v fuel → Searched b lent (lent .frames) (now (room .entry)) (now (room .exit))) ⌝ }
+{
+    if k < lent.begun {
+        if 0 < fuel {
+            let at = lent.frames + k;
+            let beginning = room[at];
+            let key = key_of(rest_of(split), first_of(beginning));
+            let value = 4 * (beginning % 8192 - fuel) + code_of(v);
+            let from = lent.frames + lent.begun + 4 * lent.slots;
+            note(room, from, lent.slots, key, value);
+        }
+    }
+}
+
 // Closes the splits that an answer ends, and moves the first other one to its next end.
 pub fn unwind(
     b: &[u8],
     answer: Verdict,
+    fuel: u32,
     base: usize,
     start: usize,
     room: &mut [u32],
     lent: Room,
 ) -> Up
-    requires { ⌜ Lends (now b) (now room) lent start × (base ≤ start) × Stacked (now b) (now room) base start answer ⌝ }
-    ensures rises { λ r. ⌜ ((from fuel : ℕ) (w : Found) → Plugs (now (b .entry)) (now (room .entry)) base from start (found answer fuel) w → Rises (now (b .entry)) (now (room .exit)) base from (r .top) (r .verdict) fuel w) ⌝ }
+    requires { ⌜ Lends (now b) (now room) lent start × (base ≤ start) × Stacked (now b) (now room) lent base start answer fuel ⌝ }
+    ensures rises { λ r. ⌜ ((from : ℕ) (w : Found) → Plugs (now (b .entry)) (now (room .entry)) lent base from start (found answer fuel) w → Rises (now (b .entry)) (now (room .exit)) lent base from (r .top) (r .verdict) fuel w) ⌝ }
     ensures keeps { λ r. ⌜ Searched (now (b .entry)) lent base (now (room .entry)) (now (room .exit)) × (base ≤ r .top) × (r .top ≤ start) ⌝ }
 {
     let mut top = start;
@@ -97,7 +154,9 @@ pub fn unwind(
                 return Up { top, verdict };
             }
         }
-        verdict = behind_verdict(heads_of(split), ended_by(so_far_of(split), verdict));
+        let v = ended_by(so_far_of(split), verdict);
+        close_split(split, k, v, fuel, room, lent);
+        verdict = behind_verdict(heads_of(split), v);
         top = k;
     }
     Up { top, verdict }

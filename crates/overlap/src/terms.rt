@@ -41,7 +41,7 @@ pub fn term_end(b: &[u8], p: usize, room: &mut [u32], lent: Room) -> usize
     if b[p] != 7 {
         return p + term_len(&b[p..]);
     }
-    let from = lent.frames + 2 * lent.slots;
+    let from = lent.frames + lent.begun + 2 * lent.slots;
     let key = p as u32 + 1;
     let known = recall(room, from, lent.slots, key);
     if known != 0 {

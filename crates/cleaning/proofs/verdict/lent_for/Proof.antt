@@ -30,15 +30,21 @@ sub-free c = search needs
 least-requires : tie.Need-least-requires
 least-requires c κs = search needs
 
+sub-others : tie.Need-sub-others
+sub-others c = search needs
+
+least-requires-2 : tie.Need-least-requires-2
+least-requires-2 c κs = search needs
+
 sub-slots : tie.Need-sub-slots
 sub-slots c = search needs
 
 returns : tie.Need-returns
 returns c =
-    let a = c .before .before .before .before .before .before .args in
-    let j = c .before .before .if1 in
+    let a = c .before .before .before .before .before .before .before .args in
+    let j = c .before .before .before .if1 in
     let e : j .free ≡ a .bytes - taken (a .plan) = ⊎-elim (λ w. omega (arith, w .1, w .0 .taken)) (λ w. omega (arith, w .1, w .0 .left)) (j .came) in
-    lent-is (a .bytes) (a .entries) (a .plan) (j .free) (c .least .result) e (c .least .ensures)
+    lent-is (a .bytes) (a .entries) (a .plan) (j .free) (c .before .least .result) (c .least2 .result) e (c .before .least .ensures) (c .least2 .ensures)
 
 pub lent-for-spec : {M : Type 1} → statement M
 lent-for-spec =
@@ -51,5 +57,7 @@ lent-for-spec =
     add-taken-2
     sub-free
     least-requires
+    sub-others
+    least-requires-2
     sub-slots
     returns)

@@ -32,18 +32,18 @@ pub +absorbing-split+heads+overlap-of-terms+pair-overlap+search+sequence+settle+
 +absorbing-split+heads+overlap-of-terms+pair-overlap+search+sequence+settle+takes-spec =
     close μ-absorbing-split μ-heads μ-overlap-of-terms μ-pair-overlap μ-search μ-sequence μ-settle μ-takes
     (λ t. absorbing-split-lts.spec (absorbing-split-claims t) (absorbing-split-at t) absorbing-split.Post
-    (AbsorbingSplit.mul-from t) (AbsorbingSplit.add-from t) (AbsorbingSplit.key-of-requires t) (AbsorbingSplit.recall-requires t) (AbsorbingSplit.recalled-requires t) (AbsorbingSplit.same-length t) (AbsorbingSplit.returns t) (AbsorbingSplit.takes-requires t) (AbsorbingSplit.sub-value t) (AbsorbingSplit.mul-value t) (AbsorbingSplit.code-of-requires t) (AbsorbingSplit.add-value t) (AbsorbingSplit.note-requires t) (AbsorbingSplit.same-length-2 t) (AbsorbingSplit.returns-2 t) (AbsorbingSplit.same-length-3 t) (AbsorbingSplit.returns-3 t))
+    (AbsorbingSplit.add-from t) (AbsorbingSplit.mul-from t) (AbsorbingSplit.add-from-2 t) (AbsorbingSplit.key-of-requires t) (AbsorbingSplit.recall-requires t) (AbsorbingSplit.recalled-requires t) (AbsorbingSplit.same-length t) (AbsorbingSplit.returns t) (AbsorbingSplit.takes-requires t) (AbsorbingSplit.sub-value t) (AbsorbingSplit.mul-value t) (AbsorbingSplit.code-of-requires t) (AbsorbingSplit.add-value t) (AbsorbingSplit.note-requires t) (AbsorbingSplit.same-length-2 t) (AbsorbingSplit.returns-2 t) (AbsorbingSplit.same-length-3 t) (AbsorbingSplit.returns-3 t))
     (λ t. heads-lts.spec (heads-claims t) (heads-at t) heads.Post Heads.Inv-loop Heads.μ-loop
     (Heads.loop-holds t) (Heads.sub-left t) (Heads.shared-slice-read-m t) (Heads.shared-slice-read-n t) (Heads.sub-leftover-overlap t) (Heads.part-leftover-overlap-start t) (Heads.part-leftover-overlap-end t) (Heads.leftover-overlap-requires t) (Heads.behind-heads-requires t) (Heads.same-length t) (Heads.returns t) (Heads.sub-leftover-overlap-2 t) (Heads.part-leftover-overlap-start-2 t) (Heads.part-leftover-overlap-end-2 t) (Heads.leftover-overlap-requires-2 t) (Heads.behind-heads-requires-2 t) (Heads.same-length-2 t) (Heads.returns-2 t) (Heads.sub-term-len t) (Heads.part-term-len-start t) (Heads.part-term-len-end t) (Heads.term-len-requires t) (Heads.add-rest t) (Heads.same-length-3 t) (Heads.returns-3 t) (Heads.sub-term-len-2 t) (Heads.part-term-len-start-2 t) (Heads.part-term-len-end-2 t) (Heads.term-len-requires-2 t) (Heads.add-rest-2 t) (Heads.same-length-4 t) (Heads.returns-4 t) (Heads.overlap-of-terms-requires t) (Heads.is-disjoint-requires t) (Heads.same-length-5 t) (Heads.returns-5 t) (Heads.remember-requires t) (Heads.term-end-requires t) (Heads.term-end-requires-2 t) (Heads.loop-less t) (Heads.loop-again t) (Heads.same-length-6 t) (Heads.returns-6 t))
     (λ t. overlap-of-terms-lts.spec (overlap-of-terms-claims t) (overlap-of-terms-at t) overlap-of-terms.Post
     (OverlapOfTerms.shared-slice-read-m t) (OverlapOfTerms.shared-slice-read-n t) (OverlapOfTerms.add-pair-overlap t) (OverlapOfTerms.add-pair-overlap-2 t) (OverlapOfTerms.pair-overlap-requires t) (OverlapOfTerms.same-length t) (OverlapOfTerms.returns t) (OverlapOfTerms.returns-2 t) (OverlapOfTerms.returns-3 t) (OverlapOfTerms.returns-4 t) (OverlapOfTerms.returns-5 t) (OverlapOfTerms.returns-6 t) (OverlapOfTerms.returns-7 t) (OverlapOfTerms.sub-same-symbol t) (OverlapOfTerms.part-same-symbol-start t) (OverlapOfTerms.part-same-symbol-end t) (OverlapOfTerms.sub-same-symbol-2 t) (OverlapOfTerms.part-same-symbol-start-2 t) (OverlapOfTerms.part-same-symbol-end-2 t) (OverlapOfTerms.same-symbol-requires t) (OverlapOfTerms.literal-overlap-requires t) (OverlapOfTerms.returns-8 t))
     (λ t. pair-overlap-lts.spec (pair-overlap-claims t) (pair-overlap-at t) pair-overlap.Post
-    (PairOverlap.key-of-requires t) (PairOverlap.recall-requires t) (PairOverlap.verdict-of-requires t) (PairOverlap.same-length t) (PairOverlap.returns t) (PairOverlap.sequence-requires t) (PairOverlap.code-of-requires t) (PairOverlap.note-requires t) (PairOverlap.same-length-2 t) (PairOverlap.returns-2 t))
+    (PairOverlap.add-from t) (PairOverlap.key-of-requires t) (PairOverlap.recall-requires t) (PairOverlap.verdict-of-requires t) (PairOverlap.same-length t) (PairOverlap.returns t) (PairOverlap.sequence-requires t) (PairOverlap.code-of-requires t) (PairOverlap.note-requires t) (PairOverlap.same-length-2 t) (PairOverlap.returns-2 t))
     (λ t. search-lts.spec (search-claims t) (search-at t) search.Post Search.Inv-loop Search.μ-loop
     (Search.loop-holds t) (Search.heads-requires t) (Search.settle-requires t) (Search.enum-known-s t) (Search.add-top t) (Search.loop-less t) (Search.loop-again t) (Search.enum-known-s-2 t) (Search.is-out-requires t) (Search.same-length t) (Search.returns t) (Search.unwind-requires t) (Search.same-length-2 t) (Search.returns-2 t) (Search.sub-split t) (Search.mul-split t) (Search.slice-read-split t) (Search.rest-of-requires t) (Search.other-of-requires t) (Search.loop-less-2 t) (Search.loop-again-2 t))
     (λ t. sequence-lts.spec (sequence-claims t) (sequence-at t) sequence.Post
     (Sequence.search-requires t) (Sequence.same-length t) (Sequence.returns t) (Sequence.heads-requires t) (Sequence.enum-known-h t) (Sequence.enum-known-h-2 t) (Sequence.shallower-requires t) (Sequence.absorbing-split-requires t) (Sequence.behind-heads-requires t) (Sequence.same-length-2 t) (Sequence.returns-2 t) (Sequence.same-length-3 t) (Sequence.returns-3 t))
     (λ t. settle-lts.spec (settle-claims t) (settle-at t) settle.Post
-    (Settle.enum-known-h t) (Settle.enum-known-h-2 t) (Settle.split-of-requires t) (Settle.mul-room t) (Settle.slice-write-room t) (Settle.same-length t) (Settle.returns t) (Settle.absorbing-split-requires t) (Settle.behind-heads-requires t) (Settle.returns-2 t) (Settle.same-length-2 t) (Settle.returns-3 t))
+    (Settle.enum-known-h t) (Settle.enum-known-h-2 t) (Settle.add-from t) (Settle.mul-from t) (Settle.add-from-2 t) (Settle.key-of-requires t) (Settle.recall-requires t) (Settle.recalled-requires t) (Settle.behind-heads-requires t) (Settle.same-length t) (Settle.returns t) (Settle.push-requires t) (Settle.same-length-2 t) (Settle.returns-2 t) (Settle.absorbing-split-requires t) (Settle.behind-heads-requires-2 t) (Settle.returns-3 t) (Settle.same-length-3 t) (Settle.returns-4 t))
     (λ t. takes-lts.spec (takes-claims t) (takes-at t) takes.Post Takes.Inv-loop Takes.μ-loop
     (Takes.loop-holds t) (Takes.sequence-requires t) (Takes.is-overlap-requires t) (Takes.same-length t) (Takes.returns t) (Takes.remember-requires t) (Takes.shared-slice-read-if2 t) (Takes.same-length-2 t) (Takes.returns-2 t) (Takes.term-end-requires t) (Takes.loop-less t) (Takes.loop-again t))

@@ -1,5 +1,5 @@
--- `overlap::stack::unwind` meets its contract: at the loop's head the entries are still those of the start.
-use Prim.Native.Nat.{ℕ, suc, _-_, _<_, _≤_}
+-- `overlap::stack::unwind` meets its contract: at the loop's head the entries of open splits are still those of the start.
+use Prim.Native.Nat.{ℕ, suc, _+_, _-_, _<_, _≤_}
 use native.Mathlib.Omega.{arith}
 use mathlib.Core.Path.{_≡_, refl, sym, ap, ap₂, _∙_, subst}
 use mathlib.Core.Bool.{true, false}
@@ -13,23 +13,24 @@ use Rattle.image.specs.Encode.{putTerms}
 use Rattle.image.specs.Parts.{Passes, TermsAt, tail}
 use Rattle.overlap.specs.declared.Verdict.{Verdict}
 use Rattle.overlap.specs.declared.Found.{Found}
+use Rattle.overlap.specs.declared.Room.{Room}
 use Rattle.overlap.specs.Search.{found}
 use Rattle.overlap.specs.Steps.{isOverlap, remembered, behindVerdict, endedBy}
 use Rattle.overlap.specs.Memory.{Lends, Searched}
-use Rattle.overlap.specs.Stack.{restOf, otherOf, headsOf, soFarOf, Plugs, InTurn}
+use Rattle.overlap.specs.Stack.{restOf, otherOf, headsOf, soFarOf, Closes, Plugs, InTurn}
 use Rattle.overlap.proofs.Readings.{inside}
-use Rattle.overlap.proofs.Memory.{lends-less, searched-same, searched-then, searched-less, entry-written}
-use Rattle.overlap.proofs.Plugging.{moved, after-term, heads-going, so-far-apart, SplitAt, plugs-top, plugs-ended, plugs-next, plugs-all}
+use Rattle.overlap.proofs.Memory.{lends-less, searched-same, searched-then, searched-less, searched-lends, entry-written}
+use Rattle.overlap.proofs.Plugging.{moved, after-term, heads-going, so-far-apart, alike-less, alike-searched, plugs-same, SplitAt, plugs-top, plugs-ended, ended-spends, ended-closes, plugs-next, plugs-all}
 use Rattle.overlap.proofs.stack.unwind.Statement.{statement}
 use Rattle.overlap.proofs.stack.unwind.Tie as tie
 
 abbrev Inv-loop : tie.InvT-loop
-Inv-loop b base start room₀ lent top₀ verdict₀ room top verdict =
-    (room ≡ room₀) × (base ≤ top) × (top ≤ start)
-    × ((from fuel : ℕ) (w : Found) → Plugs b room₀ base from start (found verdict₀ fuel) w → Plugs b room base from top (found verdict fuel) w)
+Inv-loop b fuel base start room₀ lent top₀ verdict₀ room top verdict =
+    Searched b lent (lent .frames) room₀ room × (base ≤ top) × (top ≤ start)
+    × ((from : ℕ) (w : Found) → Plugs b room₀ lent base from start (found verdict₀ fuel) w → Plugs b room lent base from top (found verdict fuel) w)
 
 abbrev μ-loop : tie.MeasureT-loop
-μ-loop b base start room₀ lent top₀ verdict₀ room top verdict = top
+μ-loop b fuel base start room₀ lent top₀ verdict₀ room top verdict = top
 
 abbrev Loop : Type 0
 Loop = tie.At-loop Inv-loop μ-loop
@@ -40,28 +41,28 @@ start-of h = h .before .before .before
 abbrev bytes : Loop → List ℕ
 bytes h = start-of h .args .b .now
 
-abbrev entries : Loop → List ℕ
-entries h = start-of h .args .room .now
+abbrev lent-to : Loop → Room
+lent-to h = start-of h .args .lent
 
 -- The topmost split, for every answer that can be plugged in.
-top-split : (h : Loop) → start-of h .args .base < h .loop .top → (from fuel : ℕ) (w : Found)
-    → Plugs (bytes h) (entries h) (start-of h .args .base) from (start-of h .args .start) (found (start-of h .args .answer) fuel) w
-    → SplitAt (bytes h) (h .loop .room) (start-of h .args .base) from (h .loop .top - 1) (found (h .loop .verdict) fuel) w
-top-split h l from fuel w p = plugs-top (h .loop .top - 1) (h .loop .inv .3 from fuel w p) (omega (arith, l)) l
+top-split : (h : Loop) → start-of h .args .base < h .loop .top → (from : ℕ) (w : Found)
+    → Plugs (bytes h) (start-of h .args .room .now) (lent-to h) (start-of h .args .base) from (start-of h .args .start) (found (start-of h .args .answer) (start-of h .args .fuel)) w
+    → SplitAt (bytes h) (h .loop .room) (lent-to h) (start-of h .args .base) from (h .loop .top - 1) (found (h .loop .verdict) (start-of h .args .fuel)) w
+top-split h l from w p = plugs-top (h .loop .top - 1) (h .loop .inv .3 from w p) (omega (arith, l)) l
 
 -- For the one that the function was given.
 given : (h : Loop) → start-of h .args .base < h .loop .top
-    → SplitAt (bytes h) (h .loop .room) (start-of h .args .base) (start-of h .pre .2 .from) (h .loop .top - 1) (found (h .loop .verdict) (start-of h .pre .2 .fuel)) (start-of h .pre .2 .result)
-given h l = let s = start-of h .pre .2 in top-split h l (s .from) (s .fuel) (s .result) (s .plugs)
+    → SplitAt (bytes h) (h .loop .room) (lent-to h) (start-of h .args .base) (start-of h .pre .2 .from) (h .loop .top - 1) (found (h .loop .verdict) (start-of h .args .fuel)) (start-of h .pre .2 .result)
+given h l = let s = start-of h .pre .2 in top-split h l (s .from) (s .result) (s .plugs)
 
-lends : (h : Loop) → Lends (bytes h) (h .loop .room) (start-of h .args .lent) (start-of h .args .start)
-lends h = subst (λ (m : List ℕ). Lends (bytes h) m (start-of h .args .lent) (start-of h .args .start)) (sym (h .loop .inv .0)) (start-of h .pre .0)
+lends : (h : Loop) → Lends (bytes h) (h .loop .room) (lent-to h) (start-of h .args .start)
+lends h = searched-lends (start-of h .pre .0) (h .loop .inv .0)
 
 within : (h : Loop) → h .loop .top ≤ length (h .loop .room)
 within h = let l = lends h in omega (arith, l .remembers .fits, l .within, h .loop .inv .2)
 
 loop-holds : tie.Need-loop-holds Inv-loop μ-loop
-loop-holds c = (refl, c .before .before .pre .1, omega arith, λ from fuel w p. p)
+loop-holds c = let s = c .before .before in (searched-same (s .pre .0 .remembers) (s .args .lent .frames), s .pre .1, omega arith, λ from w p. p)
 
 sub-k : tie.Need-sub-k Inv-loop μ-loop
 sub-k c = omega (arith, c .loop-test .taken)
@@ -161,7 +162,7 @@ slice-write-room c = omega (arith, room-left c, placed (ended c) .before .before
 same-length : tie.Need-same-length Inv-loop μ-loop
 same-length c =
     let h = loop-of (placed (ended c)) in
-    length-set (left (ended c)) (h .loop .top - 1) (c .split-of .result) ∙ ended c .term-end .ensures .1 .length ∙ ap length (h .loop .inv .0)
+    length-set (left (ended c)) (h .loop .top - 1) (c .split-of .result) ∙ ended c .term-end .ensures .1 .length ∙ h .loop .inv .0 .length
 
 returns : tie.Need-returns Inv-loop μ-loop
 returns c =
@@ -174,28 +175,28 @@ returns c =
     let s = d .term-end .ensures .1 in
     let w = lends h in
     let at : getD n k 0 ≡ c .split-of .result = getD-set-same (left d) k (c .split-of .result) 0 (omega (arith, room-left c, t)) in
+    let high : k < lent-to h .frames = omega (arith, t, w .within, h .loop .inv .2) in
     let below : (j : ℕ) → j < k → getD n j 0 ≡ getD (h .loop .room) j 0 =
-    λ j l. getD-set-other (left d) k j (c .split-of .result) 0 (λ e. omega (arith, e, l)) ∙ s .below j (omega (arith, l, w .within, h .loop .inv .2)) in
+    λ j l. getD-set-other (left d) k j (c .split-of .result) 0 (λ e. omega (arith, e, l)) ∙ s .below j (omega (arith, l, high)) in
+    let began : (j : ℕ) → j ≤ k → j < lent-to h .begun → getD n (lent-to h .frames + j) 0 ≡ getD (h .loop .room) (lent-to h .frames + j) 0 =
+    λ j l u. getD-set-other (left d) k (lent-to h .frames + j) (c .split-of .result) 0 (λ e. omega (arith, e, high)) ∙ s .beginnings j (omega (arith, l, high)) u in
     let o : isOverlap (h .loop .verdict) ≡ false = sym (d .before .before .before .before .before .is-overlap .ensures) ∙ not-true _ (d .before .before .before .before .if1 .taken) in
     let e = c .split-of .ensures in
     let i : suc k ≡ h .loop .top = omega (arith, t) in
     let q = split-of g in
     let m : getD (bytes h) (otherOf q) 0 ≡ 15 → ⊥ = λ x. d .before .before .if2 .taken (ap (λ (j : ℕ). getD (bytes h) j 0) (g .other-of .ensures .0) ∙ x) in
     let y = subst (λ (j : ℕ). Past (bytes h) (d .term-end .result) j) (g .other-of .ensures .0) (d .term-end .ensures .0) in (
-      λ from fuel r p. inr
-          (subst (λ (top : ℕ). InTurn (bytes h) n (start-of h .args .base) from top fuel r) i
-          (let u = top-split h t from fuel r p in
-          plugs-next u o m (y (u .other)) (ap restOf at ∙ e .0 ∙ c .before .before .rest-of .ensures .0) (ap otherOf at ∙ e .1) (ap headsOf at ∙ e .2 ∙ c .before .heads-of .ensures) (ap soFarOf at ∙ e .3 ∙ so-far-is (c .before .before .before)) below)),
+      λ from r p. inr
+          (subst (λ (top : ℕ). InTurn (bytes h) n (lent-to h) (start-of h .args .base) from top (start-of h .args .fuel) r) i
+          (let u = top-split h t from r p in
+          plugs-next u o m (y (u .other)) (ap restOf at ∙ e .0 ∙ c .before .before .rest-of .ensures .0) (ap otherOf at ∙ e .1) (ap headsOf at ∙ e .2 ∙ c .before .heads-of .ensures) (ap soFarOf at ∙ e .3 ∙ so-far-is (c .before .before .before))
+          (record { splits = below; beginnings = λ j l. began j (omega (arith, l)) }) (began k (omega arith)))),
       (
-        subst (λ (x : List ℕ). Searched (bytes h) (start-of h .args .lent) (start-of h .args .base) x n) (h .loop .inv .0)
-            (searched-then (searched-less (omega (arith, t, w .within, h .loop .inv .2)) s) (entry-written (start-of h .args .base) k (s .remembers) (omega (arith, t)) (omega (arith, t, w .within, h .loop .inv .2)) (c .split-of .result))),
+        searched-then (searched-less (omega (arith, t, high)) (searched-then (h .loop .inv .0) s)) (entry-written (start-of h .args .base) k (s .remembers) (omega (arith, t)) high (c .split-of .result)),
         h .loop .inv .1,
         h .loop .inv .2,
       ),
     )
-
-heads-of-requires-2 : tie.Need-heads-of-requires-2 Inv-loop μ-loop
-heads-of-requires-2 c κs = tt
 
 so-far-of-requires-2 : tie.Need-so-far-of-requires-2 Inv-loop μ-loop
 so-far-of-requires-2 c κs = tt
@@ -203,44 +204,92 @@ so-far-of-requires-2 c κs = tt
 ended-by-requires : tie.Need-ended-by-requires Inv-loop μ-loop
 ended-by-requires c κs = tt
 
+-- The answer ends the topmost split.
+abbrev Closing : Type 0
+Closing = tie.Joined1 Inv-loop μ-loop
+
+abbrev placed-of : Closing → Placed
+placed-of j = j .before .before
+
+abbrev loop-at : Closing → Loop
+loop-at j = loop-of (placed-of j)
+
+abbrev taken : (j : Closing) → start-of (loop-at j) .args .base < loop-at j .loop .top
+taken j = placed-of j .before .before .loop-test .taken
+
+ends : (j : Closing) → (getD (bytes (loop-at j)) (otherOf (split-of (placed-of j))) 0 ≡ 15) ⊎ (isOverlap (loop-at j .loop .verdict) ≡ true)
+ends j =
+    let g = placed-of j in
+    ⊎-elim
+    (λ x. inl (ap (λ (i : ℕ). getD (bytes (loop-of g)) i 0) (sym (g .other-of .ensures .0)) ∙ x .2 .left))
+    (λ x. inr (sym (j .before .is-overlap .ensures) ∙ not-false _ (x .left)))
+    (j .if1 .came)
+
+-- Its verdict.
+ended-is : (c : tie.After-ended-by Inv-loop μ-loop)
+    → c .ended-by .result ≡ endedBy (soFarOf (split-of (placed-of (c .before .before)))) (loop-at (c .before .before) .loop .verdict)
+ended-is c = c .ended-by .ensures ∙ ap (λ (s : Verdict). endedBy s (loop-at (c .before .before) .loop .verdict)) (c .before .so-far-of2 .ensures)
+
+close-split-requires : tie.Need-close-split-requires Inv-loop μ-loop
+close-split-requires c κs =
+    let j = c .before .before .before in
+    let h = loop-at j in
+    (lends h .remembers .fits, ended-spends (given h (taken j)) (ends j))
+
+-- It has been closed, and may be remembered.
+abbrev Closed : Type 0
+Closed = tie.After-close-split Inv-loop μ-loop
+
+abbrev closing : Closed → Closing
+closing c = c .before .before .before .before
+
+abbrev left-closed : Closed → List ℕ
+left-closed c = c .close-split .last .1 .1 .1 .1 .0
+
+kept : (c : Closed) → Searched (bytes (loop-at (closing c))) (lent-to (loop-at (closing c))) (lent-to (loop-at (closing c)) .frames) (loop-at (closing c) .loop .room) (left-closed c)
+kept c =
+    let j = closing c in
+    let h = loop-at j in
+    let q = split-of (placed-of j) in
+    c .close-split .ensures (bytes h) (lends h .remembers)
+    (subst (λ (v : Verdict). Closes (bytes h) (h .loop .room) (lent-to h) q (h .loop .top - 1) v (start-of h .args .fuel)) (sym (ended-is (c .before .before))) (ended-closes (given h (taken j)) (ends j) (lends h .small)))
+
+heads-of-requires-2 : tie.Need-heads-of-requires-2 Inv-loop μ-loop
+heads-of-requires-2 c κs = tt
+
 behind-verdict-requires : tie.Need-behind-verdict-requires Inv-loop μ-loop
 behind-verdict-requires c κs = tt
 
 loop-less : tie.Need-loop-less Inv-loop μ-loop
-loop-less c = omega (arith, c .before .before .before .before .before .before .before .before .loop-test .taken)
+loop-less c = omega (arith, taken (closing (c .before .before .before .before)))
 
 loop-again : tie.Need-loop-again Inv-loop μ-loop
 loop-again c =
-    let j = c .before .before .before .before in
-    let g = j .before .before in
-    let h = loop-of g in
-    let t = g .before .before .loop-test .taken in
+    let d = c .before .before .before .before in
+    let j = closing d in
+    let h = loop-at j in
+    let t = taken j in
     let k = h .loop .top - 1 in
-    let q = split-of g in
-    let f : (getD (bytes h) (otherOf q) 0 ≡ 15) ⊎ (isOverlap (h .loop .verdict) ≡ true) =
-    ⊎-elim
-    (λ x. inl (ap (λ (i : ℕ). getD (bytes h) i 0) (sym (g .other-of .ensures .0)) ∙ x .2 .left))
-    (λ x. inr (sym (j .before .is-overlap .ensures) ∙ not-false _ (x .left)))
-    (j .if1 .came) in
+    let q = split-of (placed-of j) in
     let v : c .behind-verdict .result ≡ behindVerdict (headsOf q) (endedBy (soFarOf q) (h .loop .verdict)) =
-    c .behind-verdict .ensures
-    ∙ ap₂ behindVerdict (c .before .before .before .heads-of2 .ensures) (c .before .ended-by .ensures ∙ ap (λ (s : Verdict). endedBy s (h .loop .verdict)) (c .before .before .so-far-of2 .ensures)) in (
-      h .loop .inv .0,
+    c .behind-verdict .ensures ∙ ap₂ behindVerdict (c .before .heads-of2 .ensures) (ended-is (d .before .before)) in (
+      searched-then (h .loop .inv .0) (kept d),
       omega (arith, t),
       omega (arith, h .loop .inv .2),
-      λ from fuel w p. subst (λ (u : Verdict). Plugs (bytes h) (h .loop .room) (start-of h .args .base) from k (found u fuel) w) (sym v) (plugs-ended (top-split h t from fuel w p) f),
+      λ from w p. subst (λ (u : Verdict). Plugs (bytes h) (left-closed d) (lent-to h) (start-of h .args .base) from k (found u (start-of h .args .fuel)) w) (sym v)
+          (plugs-same (alike-less (omega (arith, lends h .within, h .loop .inv .2)) (alike-searched (kept d))) (plugs-ended (top-split h t from w p) (ends j))),
     )
 
 same-length-2 : tie.Need-same-length-2 Inv-loop μ-loop
-same-length-2 c = ap length (c .before .loop .inv .0)
+same-length-2 c = c .before .loop .inv .0 .length
 
 returns-2 : tie.Need-returns-2 Inv-loop μ-loop
 returns-2 c =
     let h = c .before in
     let z : h .loop .top ≡ start-of h .args .base = omega (arith, h .loop .inv .1, c .loop-test .left) in (
-      λ from fuel w p. inl (z, plugs-all (h .loop .inv .3 from fuel w p) (omega (arith, z))),
+      λ from w p. inl (z, plugs-all (h .loop .inv .3 from w p) (omega (arith, z))),
       (
-        subst (λ (m : List ℕ). Searched (bytes h) (start-of h .args .lent) (start-of h .args .base) m (h .loop .room)) (h .loop .inv .0) (searched-same (lends h .remembers) (start-of h .args .base)),
+        searched-less (omega (arith, z, lends h .within, h .loop .inv .2)) (h .loop .inv .0),
         h .loop .inv .1,
         h .loop .inv .2,
       ),
@@ -249,4 +298,4 @@ returns-2 c =
 pub unwind-spec : {M : Type 1} → statement M
 unwind-spec =
     tie.close
-    (tie.spec Inv-loop μ-loop loop-holds sub-k mul-split slice-read-split other-of-requires is-overlap-requires shared-slice-read-if2 term-end-requires so-far-of-requires remember-requires rest-of-requires heads-of-requires split-of-requires mul-room slice-write-room same-length returns heads-of-requires-2 so-far-of-requires-2 ended-by-requires behind-verdict-requires loop-less loop-again same-length-2 returns-2)
+    (tie.spec Inv-loop μ-loop loop-holds sub-k mul-split slice-read-split other-of-requires is-overlap-requires shared-slice-read-if2 term-end-requires so-far-of-requires remember-requires rest-of-requires heads-of-requires split-of-requires mul-room slice-write-room same-length returns so-far-of-requires-2 ended-by-requires close-split-requires heads-of-requires-2 behind-verdict-requires loop-less loop-again same-length-2 returns-2)

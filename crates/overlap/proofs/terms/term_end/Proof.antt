@@ -46,11 +46,14 @@ returns c =
     let s = c .before .before .before .before .before .before in
     (end-at (s .args .b .now) (s .args .p) (c .term-len .result) (c .term-len .ensures), searched-same (s .pre .2 .remembers) (s .args .lent .frames))
 
+add-from : tie.Need-add-from
+add-from c = search needs
+
 mul-from : tie.Need-mul-from
 mul-from c = search needs
 
-add-from : tie.Need-add-from
-add-from c = search needs
+add-from-2 : tie.Need-add-from-2
+add-from-2 c = search needs
 
 cast-key : tie.Need-cast-key
 cast-key c = let s = c .before .before .before .before .before .before in omega (arith, within s, s .pre .2 .small)
@@ -123,8 +126,9 @@ term-end-spec =
     term-len-requires
     add-result
     returns
-    mul-from
     add-from
+    mul-from
+    add-from-2
     cast-key
     add-key
     recall-requires

@@ -25,11 +25,14 @@ module _ (t : ℕ) where
   other-small : (s : Start) → s .args .other < 32768
   other-small s = omega (arith, inside (s .args .b .now) (s .args .other) (s .pre .1 .1), s .pre .1 .2 .small)
 
-  pub mul-from : lts.Need-mul-from (claims t) (at t) absorbing-split.Post
-  mul-from c = search (needs, (c .before .before .before) .pre .1 .2 .remembers .fits)
-
   pub add-from : lts.Need-add-from (claims t) (at t) absorbing-split.Post
-  add-from c = search (needs, (c .before .before .before .before) .pre .1 .2 .remembers .fits)
+  add-from c = search (needs, (c .before .before .before) .pre .1 .2 .remembers .fits)
+
+  pub mul-from : lts.Need-mul-from (claims t) (at t) absorbing-split.Post
+  mul-from c = search (needs, (c .before .before .before .before) .pre .1 .2 .remembers .fits)
+
+  pub add-from-2 : lts.Need-add-from-2 (claims t) (at t) absorbing-split.Post
+  add-from-2 c = search (needs, (c .before .before .before .before) .pre .1 .2 .remembers .fits)
 
   pub key-of-requires : lts.Need-key-of-requires (claims t) (at t) absorbing-split.Post
   key-of-requires c κs = (rest-small (c .before .before .before .before), other-small (c .before .before .before .before))

@@ -45,7 +45,7 @@ use Rattle.overlap.proofs.slots.recall.Reads as recall-reads
 use Rattle.overlap.proofs.slots.verdict_of.Reads as verdict-of-reads
 use Rattle.overlap.proofs.stack.other_of.Reads as other-of-reads
 use Rattle.overlap.proofs.stack.rest_of.Reads as rest-of-reads
-use Rattle.overlap.proofs.stack.split_of.Reads as split-of-reads
+use Rattle.overlap.proofs.stack.push.Reads as push-reads
 use Rattle.overlap.proofs.stack.unwind.Reads as unwind-reads
 use Rattle.overlap.proofs.terms.leftover_overlap.Reads as leftover-overlap-reads
 use Rattle.overlap.proofs.terms.term_end.Reads as term-end-reads
@@ -158,7 +158,7 @@ sequence-claims t =
 
 abbrev pub settle-claims : ℕ → settle-lts.Claims
 settle-claims t =
-    (split-of-reads.Asked, split-of-reads.Learnt, absorbing-split-below t, absorbing-split.Post, behind-heads-reads.Asked, behind-heads-reads.Learnt)
+    (key-of-reads.Asked, key-of-reads.Learnt, recall-reads.Asked, recall-reads.Learnt, recalled-reads.Asked, recalled-reads.Learnt, behind-heads-reads.Asked, behind-heads-reads.Learnt, push-reads.Asked, push-reads.Learnt, absorbing-split-below t, absorbing-split.Post)
 
 abbrev pub takes-claims : ℕ → takes-lts.Claims
 takes-claims t =

@@ -25,11 +25,14 @@ module _ (t : ℕ) where
   q-small : (s : Start) → s .args .q < 32768
   q-small s = omega (arith, inside (s .args .b .now) (s .args .q) (s .pre .1 .1), s .pre .1 .2 .small)
 
+  pub add-from : lts.Need-add-from (claims t) (at t) pair-overlap.Post
+  add-from c = search (needs, (c .before .before .before) .pre .1 .2 .remembers .fits)
+
   pub key-of-requires : lts.Need-key-of-requires (claims t) (at t) pair-overlap.Post
-  key-of-requires c κs = (p-small (c .before .before), q-small (c .before .before))
+  key-of-requires c κs = (p-small (c .before .before .before), q-small (c .before .before .before))
 
   pub recall-requires : lts.Need-recall-requires (claims t) (at t) pair-overlap.Post
-  recall-requires c κs = omega (arith, (c .before .before .before .before) .pre .1 .2 .remembers .fits)
+  recall-requires c κs = omega (arith, (c .before .before .before .before .before) .pre .1 .2 .remembers .fits)
 
   pub verdict-of-requires : lts.Need-verdict-of-requires (claims t) (at t) pair-overlap.Post
   verdict-of-requires c κs = tt
@@ -41,13 +44,13 @@ module _ (t : ℕ) where
   returns c = (
     λ x y.
         c .verdict-of .ensures (patternsOverlap (x .terms) (y .terms))
-        (told (PairTold ((c .before .before .before .before .before .before .before) .args .b .now)) ((c .before .before .before .before .before .before .before) .pre .1 .2 .remembers .pairs) ((c .before .before) .recall .ensures) (λ e. key-nonzero ((c .before .before .before .before .before .before .before) .args .p) ((c .before .before .before .before .before .before .before) .args .q) (sym ((c .before .before .before .before) .key-of .ensures) ∙ e)) ((c .before) .if1 .taken)
-        ((c .before .before .before .before .before .before .before) .args .p) ((c .before .before .before .before .before .before .before) .args .q) (p-small (c .before .before .before .before .before .before .before)) (q-small (c .before .before .before .before .before .before .before)) ((c .before .before .before .before) .key-of .ensures) x y),
-    searched-same ((c .before .before .before .before .before .before .before) .pre .1 .2 .remembers) ((c .before .before .before .before .before .before .before) .args .top),
+        (told (PairTold ((c .before .before .before .before .before .before .before .before) .args .b .now)) ((c .before .before .before .before .before .before .before .before) .pre .1 .2 .remembers .pairs) ((c .before .before) .recall .ensures) (λ e. key-nonzero ((c .before .before .before .before .before .before .before .before) .args .p) ((c .before .before .before .before .before .before .before .before) .args .q) (sym ((c .before .before .before .before) .key-of .ensures) ∙ e)) ((c .before) .if1 .taken)
+        ((c .before .before .before .before .before .before .before .before) .args .p) ((c .before .before .before .before .before .before .before .before) .args .q) (p-small (c .before .before .before .before .before .before .before .before)) (q-small (c .before .before .before .before .before .before .before .before)) ((c .before .before .before .before) .key-of .ensures) x y),
+    searched-same ((c .before .before .before .before .before .before .before .before) .pre .1 .2 .remembers) ((c .before .before .before .before .before .before .before .before) .args .top),
   )
 
   pub sequence-requires : lts.Need-sequence-requires (claims t) (at t) pair-overlap.Post
-  sequence-requires c κs = (omega (arith, (c .before .before .before .before .before .before .before) .pre .0), ((c .before .before .before .before .before .before .before) .pre .1 .0, (c .before .before .before .before .before .before .before) .pre .1 .1, (c .before .before .before .before .before .before .before) .pre .1 .2, omega arith))
+  sequence-requires c κs = (omega (arith, (c .before .before .before .before .before .before .before .before) .pre .0), ((c .before .before .before .before .before .before .before .before) .pre .1 .0, (c .before .before .before .before .before .before .before .before) .pre .1 .1, (c .before .before .before .before .before .before .before .before) .pre .1 .2, omega arith))
 
   pub code-of-requires : lts.Need-code-of-requires (claims t) (at t) pair-overlap.Post
   code-of-requires c κs = tt
@@ -61,7 +64,7 @@ module _ (t : ℕ) where
   pub returns-2 : lts.Need-returns-2 (claims t) (at t) pair-overlap.Post
   unfolding patternsOverlap
   returns-2 c =
-      let s = (c .before .before .before .before .before .before .before .before .before .before .before .before .before .before .before) in
+      let s = (c .before .before .before .before .before .before .before .before .before .before .before .before .before .before .before .before) in
       let q = (c .before .before .before .before .before .before .before) .sequence .ensures in (
         λ x y. ap (λ (r : Found). r .verdict) (q .0 x y),
         searched-then (q .1)

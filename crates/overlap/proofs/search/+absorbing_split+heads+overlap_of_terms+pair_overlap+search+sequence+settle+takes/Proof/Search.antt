@@ -15,7 +15,7 @@ use Rattle.overlap.specs.Memory.{Searched}
 use Rattle.overlap.specs.Stack.{Leads, Plugs, plugs-none, Sound, InTurn, Settled, Pushed}
 use Rattle.overlap.proofs.Readings.{inside}
 use Rattle.overlap.proofs.Memory.{searched-same, searched-then, searched-less}
-use Rattle.overlap.proofs.Plugging.{Going, going-pushed, going-ended, plugs-out, rises-out, rises-on, in-turn-further, in-turn-going, is-out, ended-less}
+use Rattle.overlap.proofs.Plugging.{Going, alike-searched, going-pushed, going-ended, plugs-out, rises-out, rises-on, in-turn-further, in-turn-going, is-out, ended-less}
 use Rattle.overlap.proofs.search.search.Reads as search′
 use Rattle.overlap.proofs.search.+absorbing_split+heads+overlap_of_terms+pair_overlap+search+sequence+settle+takes.Lts-search as lts
 use Rattle.overlap.proofs.search.+absorbing_split+heads+overlap_of_terms+pair_overlap+search+sequence+settle+takes.Proof.Common.{behindPlaces, settling, search-at as at, search-claims as claims}
@@ -23,7 +23,7 @@ use Rattle.overlap.proofs.search.+absorbing_split+heads+overlap_of_term
 abbrev pub Inv-loop : lts.InvT-loop
 Inv-loop b p q fuel base room₀ lent i₀ j₀ left₀ top₀ room i j left top =
     (base ≤ top) × (top ≤ lent .frames) × (p + q ≤ i + j) × (left ≤ 4096) × Searched b lent base room₀ room
-    × ((x : TermsAt Mode.pattern (drop p b)) (y : TermsAt Mode.pattern (drop q b)) → Going b room base (p + q) i j left top (sequence fuel (x .terms) (y .terms)))
+    × ((x : TermsAt Mode.pattern (drop p b)) (y : TermsAt Mode.pattern (drop q b)) → Going b room lent base (p + q) i j left top (sequence fuel (x .terms) (y .terms)))
 
 abbrev pub μ-loop : lts.MeasureT-loop
 μ-loop b p q fuel base room₀ lent i₀ j₀ left₀ top₀ room i j left top = left
@@ -49,7 +49,7 @@ module _ (t : ℕ) where
   bytes h = start-of h .args .b .now
 
   -- The state at the loop's head, for the patterns that the function was given.
-  abbrev given : (h : Loop) → Going (bytes h) (h .loop .room) (start-of h .args .base) (start-of h .args .p + start-of h .args .q) (h .loop .i) (h .loop .j) (h .loop .left) (h .loop .top) (sequence (start-of h .args .fuel) (start-of h .pre .1 .0 .terms) (start-of h .pre .1 .1 .terms))
+  abbrev given : (h : Loop) → Going (bytes h) (h .loop .room) (start-of h .args .lent) (start-of h .args .base) (start-of h .args .p + start-of h .args .q) (h .loop .i) (h .loop .j) (h .loop .left) (h .loop .top) (sequence (start-of h .args .fuel) (start-of h .pre .1 .0 .terms) (start-of h .pre .1 .1 .terms))
   given h = h .loop .inv .5 (start-of h .pre .1 .0) (start-of h .pre .1 .1)
 
   low-first : (h : Loop) → start-of h .args .p < length (bytes h)
@@ -161,8 +161,8 @@ module _ (t : ℕ) where
         λ x y.
             let g = v .5 x y in
             let o = d .s .given .0 .0 in
-            subst (λ (k : ℕ). Going (bytes h) (left-by e) (start-of h .args .base) (start-of h .args .p + start-of h .args .q) (o .rest) (o .other) (o .fuel) k (sequence (start-of h .args .fuel) (x .terms) (y .terms))) u
-            (going-pushed g (pushed d (g .first) (g .second)) (v .2) (v .0) (kept e .below)),
+            subst (λ (k : ℕ). Going (bytes h) (left-by e) (start-of h .args .lent) (start-of h .args .base) (start-of h .args .p + start-of h .args .q) (o .rest) (o .other) (o .fuel) k (sequence (start-of h .args .fuel) (x .terms) (y .terms))) u
+            (going-pushed g (pushed d (g .first) (g .second)) (v .2) (v .0) (alike-searched (kept e))),
       )
 
   pub enum-known-s-2 : lts.Need-enum-known-s-2 (claims t) (at t) search′.Post Inv-loop μ-loop
@@ -189,10 +189,10 @@ module _ (t : ℕ) where
 
   -- It can be plugged into the open splits.
   plugged : (c : Answered) (x : TermsAt Mode.pattern (drop (start-of (at-answered c) .args .p) (bytes (at-answered c)))) (y : TermsAt Mode.pattern (drop (start-of (at-answered c) .args .q) (bytes (at-answered c))))
-      → Plugs (bytes (at-answered c)) (left-by (settled-of c)) (start-of (at-answered c) .args .base) (start-of (at-answered c) .args .p + start-of (at-answered c) .args .q) (at-answered c .loop .top) (answer c) (sequence (start-of (at-answered c) .args .fuel) (x .terms) (y .terms))
+      → Plugs (bytes (at-answered c)) (left-by (settled-of c)) (start-of (at-answered c) .args .lent) (start-of (at-answered c) .args .base) (start-of (at-answered c) .args .p + start-of (at-answered c) .args .q) (at-answered c .loop .top) (answer c) (sequence (start-of (at-answered c) .args .fuel) (x .terms) (y .terms))
   plugged c x y =
       let g = at-answered c .loop .inv .5 x y in
-      going-ended g (answer c) (answered c (g .first) (g .second)) (kept (settled-of c) .below)
+      going-ended g (answer c) (answered c (g .first) (g .second)) (alike-searched (kept (settled-of c)))
 
   pub is-out-requires : lts.Need-is-out-requires (claims t) (at t) search′.Post Inv-loop μ-loop
   is-out-requires c κs = tt
@@ -214,7 +214,7 @@ module _ (t : ℕ) where
       let s = start-of h in (
         record { small = s .pre .1 .2 .small; remembers = kept-all (settled-of d) .remembers; within = h .loop .inv .1 },
         h .loop .inv .0,
-        record { from = s .args .p + s .args .q; fuel = answer d .fuel; result = sequence (s .args .fuel) (s .pre .1 .0 .terms) (s .pre .1 .1 .terms); plugs = plugged d (s .pre .1 .0) (s .pre .1 .1) },
+        record { from = s .args .p + s .args .q; result = sequence (s .args .fuel) (s .pre .1 .0 .terms) (s .pre .1 .1 .terms); plugs = plugged d (s .pre .1 .0) (s .pre .1 .1) },
       )
 
   -- It has left the splits that it ends.
@@ -228,7 +228,7 @@ module _ (t : ℕ) where
   head-of c = at-answered (answered-of c)
 
   abbrev unwound : Unwound → List ℕ
-  unwound c = c .unwind .last .1 .1 .1 .1 .0
+  unwound c = c .unwind .last .1 .1 .1 .1 .1 .0
 
   kept-last : (c : Unwound) → Searched (bytes (head-of c)) (start-of (head-of c) .args .lent) (start-of (head-of c) .args .base) (start-of (head-of c) .args .room .now) (unwound c)
   kept-last c = searched-then (kept-all (settled-of (answered-of c))) (c .unwind .ensures .1 .0)
@@ -241,7 +241,7 @@ module _ (t : ℕ) where
       let d = c .before .before .before in
       let a = answered-of d in
       let s = start-of (head-of d) in
-      (λ x y. sym (rises-out (d .unwind .ensures .0 (s .args .p + s .args .q) (answer a .fuel) (sequence (s .args .fuel) (x .terms) (y .terms)) (plugged a x y)) (c .if2 .taken)), kept-last d)
+      (λ x y. sym (rises-out (d .unwind .ensures .0 (s .args .p + s .args .q) (sequence (s .args .fuel) (x .terms) (y .terms)) (plugged a x y)) (c .if2 .taken)), kept-last d)
 
   high : (c : Unwound) → (c .unwind .result .top ≡ start-of (head-of c) .args .base → ⊥) → start-of (head-of c) .args .base < c .unwind .result .top
   high c n = omega (arith, c .unwind .ensures .1 .1, n)
@@ -287,8 +287,8 @@ module _ (t : ℕ) where
       let ej = c .other-of .ensures .0 in
       let e : d .unwind .result .top ≡ suc k = omega (arith, high d n) in
       let turn : (x : TermsAt Mode.pattern (drop (s .args .p) (bytes h))) (y : TermsAt Mode.pattern (drop (s .args .q) (bytes h)))
-      → InTurn (bytes h) (unwound d) (s .args .base) (s .args .p + s .args .q) (d .unwind .result .top) (answer a .fuel) (sequence (s .args .fuel) (x .terms) (y .terms)) =
-      λ x y. rises-on (d .unwind .ensures .0 (s .args .p + s .args .q) (answer a .fuel) (sequence (s .args .fuel) (x .terms) (y .terms)) (plugged a x y)) n in
+      → InTurn (bytes h) (unwound d) (s .args .lent) (s .args .base) (s .args .p + s .args .q) (d .unwind .result .top) (answer a .fuel) (sequence (s .args .fuel) (x .terms) (y .terms)) =
+      λ x y. rises-on (d .unwind .ensures .0 (s .args .p + s .args .q) (sequence (s .args .fuel) (x .terms) (y .terms)) (plugged a x y)) n in
       let f = in-turn-further (turn (s .pre .1 .0) (s .pre .1 .1)) k i j e ei ej in (
         d .unwind .ensures .1 .1,
         omega (arith, d .unwind .ensures .1 .2, h .loop .inv .1),

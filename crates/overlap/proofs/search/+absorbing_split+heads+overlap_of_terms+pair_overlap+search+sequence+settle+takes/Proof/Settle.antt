@@ -1,17 +1,15 @@
 -- `overlap::search::settle`, as a member of its cycle of calls.
 use Prim.Native.Nat.{ℕ, _<_}
 use native.Mathlib.Omega.{arith}
-use mathlib.Core.Path.{_≡_, sym, ap, _∙_, subst}
-use lib.ListN.{length, getD, set, length-set}
-use lib.Seq.{getD-set-same}
+use mathlib.Core.Path.{_≡_, refl, sym, ap, _∙_, subst}
 use borrow.Author.Needs.{needs}
 use Rattle.overlap.specs.declared.search.Opening.{Opening}
 use Rattle.overlap.specs.declared.search.Leading.{Leading}
 use Rattle.overlap.specs.Steps.{behind}
-use Rattle.overlap.specs.Stack.{Leads, OpensAt, Sound, restOf, otherOf, headsOf, soFarOf}
-use Rattle.overlap.proofs.Verdicts.{disjoint≢overlap}
+use Rattle.overlap.specs.Memory.{SplitTold}
+use Rattle.overlap.specs.Stack.{Leads, OpensAt, Sound}
 use Rattle.overlap.proofs.Readings.{inside}
-use Rattle.overlap.proofs.Memory.{searched-same, frame-written}
+use Rattle.overlap.proofs.Memory.{told, key-nonzero, searched-same}
 use Rattle.overlap.proofs.search.settle.Reads as settle
 use Rattle.overlap.proofs.search.+absorbing_split+heads+overlap_of_terms+pair_overlap+search+sequence+settle+takes.Lts-settle as lts
 use Rattle.overlap.proofs.search.+absorbing_split+heads+overlap_of_terms+pair_overlap+search+sequence+settle+takes.Proof.Common.{settling, settle-at as at, settle-claims as claims}
@@ -45,75 +43,97 @@ module _ (t : ℕ) where
   low-other : (c : Splitting) → split c .other < 32768
   low-other c = omega (arith, inside (start-of c .args .b .now) (split c .other) (opens-at c .other), start-of c .pre .1 .1 .small)
 
-  pub split-of-requires : lts.Need-split-of-requires (claims t) (at t) settle.Post
-  split-of-requires c κs = let d = c .before .before .before in (low-rest d, low-other d, opens-at d .going, disjoint≢overlap)
+  pub add-from : lts.Need-add-from (claims t) (at t) settle.Post
+  add-from c = search (needs, start-of (c .before .before) .pre .1 .1 .remembers .fits)
 
-  -- It becomes an entry.
-  abbrev Entered : Type 0
-  Entered = lts.After-split-of (claims t) (at t) settle.Post
+  pub mul-from : lts.Need-mul-from (claims t) (at t) settle.Post
+  mul-from c = search (needs, start-of (c .before .before .before) .pre .1 .1 .remembers .fits)
 
-  abbrev splitting : Entered → Splitting
-  splitting c = c .before .before .before .before
+  pub add-from-2 : lts.Need-add-from-2 (claims t) (at t) settle.Post
+  add-from-2 c = search (needs, start-of (c .before .before .before) .pre .1 .1 .remembers .fits)
 
-  room-for : (c : Entered) → start-of (splitting c) .args .top < length (start-of (splitting c) .args .room .now)
-  room-for c = let l = start-of (splitting c) .pre .1 .1 in omega (arith, l .remembers .fits, c .before .if1 .taken)
+  pub key-of-requires : lts.Need-key-of-requires (claims t) (at t) settle.Post
+  key-of-requires c κs = let d = c .before .before .before .before in (low-rest d, low-other d)
 
-  pub mul-room : lts.Need-mul-room (claims t) (at t) settle.Post
-  mul-room c = omega (arith, room-for c)
+  pub recall-requires : lts.Need-recall-requires (claims t) (at t) settle.Post
+  recall-requires c κs = omega (arith, start-of (c .before .before .before .before .before) .pre .1 .1 .remembers .fits)
 
-  pub slice-write-room : lts.Need-slice-write-room (claims t) (at t) settle.Post
-  slice-write-room c = room-for c
+  pub recalled-requires : lts.Need-recalled-requires (claims t) (at t) settle.Post
+  recalled-requires c κs = tt
+
+  pub behind-heads-requires : lts.Need-behind-heads-requires (claims t) (at t) settle.Post
+  behind-heads-requires c κs = tt
 
   pub same-length : lts.Need-same-length (claims t) (at t) settle.Post
-  same-length c = let s = start-of (splitting c) in length-set (s .args .room .now) (s .args .top) (c .split-of .result)
+  same-length c = refl
 
+  -- It is remembered.
   pub returns : lts.Need-returns (claims t) (at t) settle.Post
   returns c =
-      let d = splitting c in
+      let d = c .before .before .before .before .before .before .before .before .before in
       let s = start-of d in
-      let e = c .split-of .ensures in
-      let is : getD (set (s .args .room .now) (s .args .top) (c .split-of .result)) (s .args .top) 0 ≡ c .split-of .result = getD-set-same (s .args .room .now) (s .args .top) (c .split-of .result) 0 (room-for c) in (
+      let key = c .before .before .before .before .key-of .ensures in (
+        λ fuel from x y l.
+            let o = subst (λ (h : Leading). Leads (s .args .b .now) fuel from x y h) (is-split d) l in
+            let k = told (SplitTold (s .args .b .now)) (s .pre .1 .1 .remembers .splits) (c .before .before .before .recall .ensures) (λ e. key-nonzero (split d .rest) (split d .other) (sym key ∙ e)) (c .before .before .if1 .taken)
+            (split d .rest) (split d .other) (low-rest d) (low-other d) key (o .rest) (o .other) in
+            c .behind-heads .ensures ∙ ap (behind (split d .heads)) (c .before .recalled .ensures (k .0) (k .1) ∙ sym (k .2 (split d .fuel))) ∙ sym (o .whole),
+        searched-same (s .pre .1 .1 .remembers) (s .args .top),
+      )
+
+  -- It becomes an entry.
+  pub push-requires : lts.Need-push-requires (claims t) (at t) settle.Post
+  push-requires c κs =
+      let d = c .before .before .before .before .before .before .before .before .before .before in
+      let o = opens-at d in
+      (low-rest d, low-other d, o .few, o .going, c .before .if2 .taken, start-of d .pre .1 .1 .remembers .fits)
+
+  pub same-length-2 : lts.Need-same-length-2 (claims t) (at t) settle.Post
+  same-length-2 c = let s = start-of (c .before .before .before .before .before .before .before .before .before .before .before .before .before) in c .before .before .push .ensures .1 (s .args .b .now) (s .pre .1 .1 .remembers) .length
+
+  pub returns-2 : lts.Need-returns-2 (claims t) (at t) settle.Post
+  returns-2 c =
+      let d = c .before .before .before .before .before .before .before .before .before .before .before .before .before in
+      let s = start-of d in
+      let e = c .before .before .push .ensures in (
         λ fuel from x y l. record {
           opens = subst (λ (h : Leading). Leads (s .args .b .now) fuel from x y h) (is-split d) l;
-          room = c .before .if1 .taken;
-          rest-is = ap restOf is ∙ e .0;
-          other-is = ap otherOf is ∙ e .1;
-          heads-is = ap headsOf is ∙ e .2;
-          so-far-is = ap soFarOf is ∙ e .3;
+          room = c .before .before .before .before .if2 .taken;
+          entered = e .0;
         },
-        frame-written (s .args .top) (s .pre .1 .1) (c .before .if1 .taken) (c .split-of .result),
+        e .1 (s .args .b .now) (s .pre .1 .1 .remembers),
       )
 
   -- It is searched by calls.
   pub absorbing-split-requires : lts.Need-absorbing-split-requires (claims t) (at t) settle.Post
   absorbing-split-requires c κs =
-      let d = c .before .before .before .before in
+      let d = c .before .before .before .before .before .before .before .before .before .before in
       let s = start-of d in
       let o = opens-at d in
       (omega (arith, s .pre .0, ap (settling (s .args .b .now)) (is-split d)), (o .rest, o .other, s .pre .1 .1, o .few))
 
-  pub behind-heads-requires : lts.Need-behind-heads-requires (claims t) (at t) settle.Post
-  behind-heads-requires c κs = tt
+  pub behind-heads-requires-2 : lts.Need-behind-heads-requires-2 (claims t) (at t) settle.Post
+  behind-heads-requires-2 c κs = tt
 
   -- The heads came to an end.
-  pub returns-2 : lts.Need-returns-2 (claims t) (at t) settle.Post
-  returns-2 c =
+  pub returns-3 : lts.Need-returns-3 (claims t) (at t) settle.Post
+  returns-3 c =
       let d = c .before in
       let s = d .before .before .before .before in (
         λ fuel from x y l. subst (λ (h : Leading). Leads (s .args .b .now) fuel from x y h) (d .h .given .1) l,
         searched-same (s .pre .1 .1 .remembers) (s .args .top),
       )
 
-  pub same-length-2 : lts.Need-same-length-2 (claims t) (at t) settle.Post
-  same-length-2 c = c .before .before .before .absorbing-split .ensures .1 .length
+  pub same-length-3 : lts.Need-same-length-3 (claims t) (at t) settle.Post
+  same-length-3 c = c .before .before .before .absorbing-split .ensures .1 .length
 
-  pub returns-3 : lts.Need-returns-3 (claims t) (at t) settle.Post
-  returns-3 c =
+  pub returns-4 : lts.Need-returns-4 (claims t) (at t) settle.Post
+  returns-4 c =
       let g = c .before .before .before in
-      let d = g .before .before .before .before .before in
+      let d = c .before .before .before .before .before .before .before .before .before .before .before .before .before .before in
       let s = start-of d in (
         λ fuel from x y l.
             let o = subst (λ (h : Leading). Leads (s .args .b .now) fuel from x y h) (is-split d) l in
-            c .behind-heads .ensures ∙ ap (behind (split d .heads)) (g .absorbing-split .ensures .0 (o .rest) (o .other)) ∙ sym (o .whole),
+            c .behind-heads2 .ensures ∙ ap (behind (split d .heads)) (g .absorbing-split .ensures .0 (o .rest) (o .other)) ∙ sym (o .whole),
         g .absorbing-split .ensures .1,
       )

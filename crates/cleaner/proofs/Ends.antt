@@ -12,6 +12,7 @@ use Rattle.image.specs.Limits.{pick}
 use Rattle.image.specs.Decode.{Answer, sized, decode}
 use Rattle.image.specs.Parts.{Accepted}
 use Rattle.image.specs.Encode.{encode}
+use Rattle.image.proofs.Numbers.{Bytes}
 use Rattle.image.specs.Tally.{checkedOf}
 use Rattle.image.specs.Steps.{refusal}
 use Rattle.image.specs.declared.reader.Checked.{Checked}
@@ -21,8 +22,10 @@ use Rattle.cleaning.specs.CleanReport.{cleanReport}
 use Rattle.report.specs.Report.{formatCleanReport}
 use Rattle.cleaner.specs.declared.CleanAnswer.{CleanAnswer}
 use Rattle.cleaner.specs.CleanAnswers.{Lent, Left, cleanRefused, cleanedTo, refusing, written, zeroed, writing, cleanDecoded, entriesFor, cleanAnswer}
+use Rattle.cleaner.specs.Packed.{cleanFields, CleanFits}
+use Rattle.cleaner.specs.Fitting.{refused-small, accepted-small}
 use Rattle.cleaner.specs.Writing.{writingOf, lending, Wrote}
-use Rattle.cleaner.specs.Demands.{clean-refused-1, clean-refused-2, clean-refused-3}
+use Rattle.cleaner.specs.Demands.{clean-refused-1, clean-refused-2, clean-refused-3, cleaned-accepted}
 
 sized-short : (image : List ℕ) → length image < 12 → sized image ≡ false
 unfolding sized
@@ -36,12 +39,28 @@ pub sized-right : (image : List ℕ) → 12 ≤ length image → length image �
 unfolding sized
 sized-right image l k = rw (le-leb 12 (length image) l, le-leb (length image) 32768 k)
 
--- All that Clean leaves, in four equations.
+-- All that Clean leaves, in four equations, and that its answer fits 64 bits.
 pub record Ended (image output work report : List ℕ) (answer : CleanAnswer) (output′ work′ report′ : List ℕ) : Type 0 where
   pub answered : answer ≡ cleanAnswer image (lending output work report) .answer
   pub outputs : output′ ≡ cleanAnswer image (lending output work report) .lent .output
   pub works : work′ ≡ cleanAnswer image (lending output work report) .lent .work
   pub reports : report′ ≡ cleanAnswer image (lending output work report) .lent .report
+  pub fits : CleanFits answer
+
+refused-fits : (n p : ℕ) → n < 256 → p < 1099511627776 → CleanFits (cleanRefused n p)
+unfolding cleanFields
+refused-fits n p h k = record { number-fits = h; middle-fits = omega arith; rest-fits = k }
+
+-- An image and a text that fit, written or refused.
+writing-fits : (image text : List ℕ) (l : Lent) → length image < 65536 → length text < 1099511627776 → CleanFits (writing image text l .answer)
+unfolding writing cleanFields
+writing-fits image text l h k = by (ltb (length (l .report)) (length text))
+  where
+    by : (t : Bool)
+        → CleanFits (cond {A = Left} t (record { answer = cleanRefused 12 (length text); lent = record { output = l .output; work = zeroed (l .work); report = l .report } })
+        (record { answer = cleanedTo (length image) (length text); lent = record { output = written image (l .output); work = zeroed (l .work); report = written text (l .report) } }) .answer)
+    by true = record { number-fits = omega arith; middle-fits = omega arith; rest-fits = k }
+    by false = record { number-fits = omega arith; middle-fits = h; rest-fits = k }
 
 cleared : (image text output work report : List ℕ) → writing image text (lending output work report) .lent .work ≡ zeroed work
 unfolding writing
@@ -54,29 +73,30 @@ cleared image text output work report = by (ltb (length report) (length text))
     by false = refl
 
 module _ (image output work report : List ℕ) where
-  ended-refusing : (n p : ℕ) → cleanAnswer image (lending output work report) ≡ refusing n p (lending output work report) → Ended image output work report (cleanRefused n p) output work report
+  ended-refusing : (n p : ℕ) → n < 256 → p < 1099511627776 → cleanAnswer image (lending output work report) ≡ refusing n p (lending output work report) → Ended image output work report (cleanRefused n p) output work report
   unfolding refusing
-  ended-refusing n p e = record {
+  ended-refusing n p h k e = record {
     answered = sym (ap (λ (x : Left). x .answer) e);
     outputs = sym (ap (λ (x : Left). x .lent .output) e);
     works = sym (ap (λ (x : Left). x .lent .work) e);
     reports = sym (ap (λ (x : Left). x .lent .report) e);
+    fits = refused-fits n p h k;
   }
 
   pub ended-short : length image < 12 → Ended image output work report (cleanRefused 1 0) output work report
-  ended-short l = ended-refusing 1 0 (clean-refused-1 image (lending output work report) (sized-short image l))
+  ended-short l = ended-refusing 1 0 (omega arith) (omega arith) (clean-refused-1 image (lending output work report) (sized-short image l))
 
   pub ended-long : 32768 < length image → Ended image output work report (cleanRefused 1 0) output work report
-  ended-long l = ended-refusing 1 0 (clean-refused-1 image (lending output work report) (sized-long image l))
+  ended-long l = ended-refusing 1 0 (omega arith) (omega arith) (clean-refused-1 image (lending output work report) (sized-long image l))
 
   module _ (least : 12 ≤ length image) (most : length image ≤ 32768) where
     pub ended-output : length output < length image → Ended image output work report (cleanRefused 2 0) output work report
-    ended-output l = ended-refusing 2 0 (clean-refused-2 image (lending output work report) (sized-right image least most) l)
+    ended-output l = ended-refusing 2 0 (omega arith) (omega arith) (clean-refused-2 image (lending output work report) (sized-right image least most) l)
 
     module _ (enough : length image ≤ length output) where
       pub ended-work : length work < (length image + 3) / 4 → Ended image output work report (cleanRefused 3 0) output work report
       unfolding entriesFor
-      ended-work l = ended-refusing 3 0 (clean-refused-3 image (lending output work report) (sized-right image least most) enough l)
+      ended-work l = ended-refusing 3 0 (omega arith) (omega arith) (clean-refused-3 image (lending output work report) (sized-right image least most) enough l)
 
       module _ (entries : (length image + 3) / 4 ≤ length work) where
         decoded : cleanAnswer image (lending output work report) ≡ cleanDecoded (decode image) (lending output work report)
@@ -85,18 +105,19 @@ module _ (image output work report : List ℕ) where
 
         pub ended-refused : (n p : ℕ) → decode image ≡ Answer.refused n p → Ended image output work report (cleanRefused n p) output work report
         unfolding cleanDecoded
-        ended-refused n p e = ended-refusing n p (decoded ∙ ap (λ (x : Answer). cleanDecoded x (lending output work report)) e)
+        ended-refused n p e = let f = refused-small image n p e in ended-refusing n p (f .0) (omega (arith, f .1)) (decoded ∙ ap (λ (x : Answer). cleanDecoded x (lending output work report)) e)
 
         accepted-is : (a : Accepted image) → cleanAnswer image (lending output work report) ≡ writingOf (a .program) (lending output work report)
         unfolding cleanDecoded
         accepted-is a = decoded ∙ ap (λ (x : Answer). cleanDecoded x (lending output work report)) (a .is)
 
-        pub ended-accepted : (a : Accepted image) (answer : CleanAnswer) (output′ work′ report′ : List ℕ) → Wrote (a .program) output report answer output′ report′ → work′ ≡ zeroed work → Ended image output work report answer output′ work′ report′
-        ended-accepted a answer output′ work′ report′ w z = record {
+        pub ended-accepted : Bytes image → (a : Accepted image) (answer : CleanAnswer) (output′ work′ report′ : List ℕ) → Wrote (a .program) output report answer output′ report′ → work′ ≡ zeroed work → Ended image output work report answer output′ work′ report′
+        ended-accepted bytes a answer output′ work′ report′ w z = record {
           answered = w .answers work ∙ sym (ap (λ (x : Left). x .answer) (accepted-is a));
           outputs = w .outputs work ∙ sym (ap (λ (x : Left). x .lent .output) (accepted-is a));
           works = z ∙ (sym (cleared (encode (cleanResidualProgram (a .program))) (formatCleanReport (cleanReport (a .program))) output work report) ∙ sym (ap (λ (x : Left). x .lent .work) (accepted-is a)));
           reports = w .reports work ∙ sym (ap (λ (x : Left). x .lent .report) (accepted-is a));
+          fits = subst CleanFits (sym (w .answers work)) (writing-fits _ _ (lending output work report) (omega (arith, accepted-small _ _ (cleaned-accepted image bytes (a .program) (a .is)))) (w .short));
         }
 
 -- Work whose every entry is zero.

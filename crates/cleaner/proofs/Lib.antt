@@ -5,3 +5,4 @@ pub mod Ends
 pub mod AfterRounds
 pub mod Searching
 pub mod Start
+pub mod Packing

@@ -9,7 +9,7 @@ use lib.ListN.{length, getD, replicate, length-replicate, getD-replicate, List·
 use borrow.Author.Tests.{ltb-true, ltb-false}
 use Rattle.image.specs.Syntax.{Program}
 use Rattle.overlap.specs.declared.Room as lent
-use Rattle.overlap.specs.Memory.{Truthful, PairTold, EndTold, SplitTold, Remembers}
+use Rattle.overlap.specs.Memory.{Truthful, PairTold, EndTold, SplitTold, tables, Remembers}
 use Rattle.index.specs.declared.Plan.{Plan}
 use Rattle.index.specs.Layout.{witnesses, marks, calls, room}
 use Rattle.index.specs.Tables.{Apart}
@@ -52,12 +52,12 @@ zero-truthful : (Told : ℕ → ℕ → Type 0) (n from slots : ℕ) → Truthfu
 zero-truthful Told n from slots i l d = absurd (d (zero-entry n (from + 2 * i)))
 
 -- Where every slot is empty, all that they tell is true.
-pub zero-remembers : (b : List ℕ) (n : ℕ) (r : lent.Room) → r .frames + 6 * r .slots ≤ n → Remembers b (replicate n 0) r
+pub zero-remembers : (b : List ℕ) (n : ℕ) (r : lent.Room) → tables r + 6 * r .slots ≤ n → Remembers b (replicate n 0) r
 zero-remembers b n r h =
     let l : length (zeros n) ≡ n = length-replicate n 0 in
     record {
       fits = omega (arith, h, l);
-      pairs = zero-truthful (PairTold b) n (r .frames) (r .slots);
-      ends = zero-truthful (EndTold b) n (r .frames + 2 * r .slots) (r .slots);
-      splits = zero-truthful (SplitTold b) n (r .frames + 4 * r .slots) (r .slots);
+      pairs = zero-truthful (PairTold b) n (tables r) (r .slots);
+      ends = zero-truthful (EndTold b) n (tables r + 2 * r .slots) (r .slots);
+      splits = zero-truthful (SplitTold b) n (tables r + 4 * r .slots) (r .slots);
     }

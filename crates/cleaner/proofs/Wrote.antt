@@ -26,7 +26,7 @@ use Rattle.cleaner.specs.CleanAnswers.{Left, cleanRefused, cleanedTo, ze
 use Rattle.cleaner.specs.Writing.{writingOf, lending, Wrote}
 
 -- The cleaned image and the text of w, whatever they are told by.
-module _ (w : Program) (image : List ℕ) (text : Text) (image-is : encode (cleanResidualProgram w) ≡ image) (text-is : formatCleanReport (cleanReport w) ≡ text) (output report : List ℕ) where
+module _ (w : Program) (image : List ℕ) (text : Text) (image-is : encode (cleanResidualProgram w) ≡ image) (text-is : formatCleanReport (cleanReport w) ≡ text) (text-short : length text < 1099511627776) (output report : List ℕ) where
   told : (work : List ℕ) → writingOf w (lending output work report) ≡ writing image text (lending output work report)
   told work = ap₂ (λ (i : List ℕ) (t : Text). writing i t (lending output work report)) image-is text-is
 
@@ -43,6 +43,7 @@ module _ (w : Program) (image : List ℕ) (text : Text) (image-is : encode (clea
     answers = λ work. ap (cleanRefused 12) e ∙ sym (ap (λ (x : Left). x .answer) (told work ∙ too-long work (omega (arith, e, l))));
     outputs = λ work. sym (ap (λ (x : Left). x .lent .output) (told work ∙ too-long work (omega (arith, e, l))));
     reports = λ work. f ∙ sym (ap (λ (x : Left). x .lent .report) (told work ∙ too-long work (omega (arith, e, l))));
+    short = omega (arith, text-short, ap length text-is);
   }
 
   pub wrote-all : (n m : ℕ) → n ≡ length image → m ≡ length text → m ≤ length report → (output′ report′ : List ℕ) → output′ ≡ written image output → report′ ≡ written text report → Wrote w output report (cleanedTo n m) output′ report′
@@ -50,6 +51,7 @@ module _ (w : Program) (image : List ℕ) (text : Text) (image-is : encode (clea
     answers = λ work. ap₂ cleanedTo d e ∙ sym (ap (λ (x : Left). x .answer) (told work ∙ fits work (omega (arith, e, l))));
     outputs = λ work. f ∙ sym (ap (λ (x : Left). x .lent .output) (told work ∙ fits work (omega (arith, e, l))));
     reports = λ work. g ∙ sym (ap (λ (x : Left). x .lent .report) (told work ∙ fits work (omega (arith, e, l))));
+    short = omega (arith, text-short, ap length text-is);
   }
 
 -- A text emitted from the start on, where there is room for it.

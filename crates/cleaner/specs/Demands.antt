@@ -1,5 +1,5 @@
 -- What the entry points promise, one page: each promise is a theorem, proved by citing.
--- The code meets these definitions, with no `requires`: `cleaner::overlap` ensures `r ≡ overlapAnswer image first second` for every image and numbers, and `cleaner::clean` ensures that its answer and the three lent slices at exit are those of `cleanAnswer image lent`, for every image and every lent length. `overlapValues` and `cleanValues` give document 01's numbers for the answers.
+-- The code meets these definitions, with no `requires`: `cleaner::overlap` ensures `r ≡ overlapAnswer image first second` for every image and numbers, and `cleaner::clean` ensures that its answer and the three lent slices at exit are those of `cleanAnswer image lent`, for every image and every lent length. `overlapValues` and `cleanValues` give document 01's numbers for the answers. Under the C names `showclean_clean` and `showclean_overlap` ensure that the number returned is `packClean` and `packOverlap` of the same answers.
 use Prim.Native.Nat.{ℕ, _-_, _<_, _≤_}
 use mathlib.Core.Path.{_≡_, refl, sym, ap, subst, _∙_}
 use mathlib.Core.Bool.{Bool, true, false}
@@ -38,6 +38,9 @@ use Rattle.run.specs.Run as the-run
 use Rattle.run.proofs.SameRun.{same-run}
 use Rattle.cleaner.specs.CleanAnswers.{Lent, cleanRefused, cleanedTo, refusing, zeroed, written, writing, cleanDecoded, entriesFor, cleanAnswer}
 use Rattle.cleaner.specs.Answers.{comparePatterns, compareFound, compareSentences, overlapOf, overlapAnswer, refusalValues, comparisonValues, verdictNumber, overlapValues}
+use Rattle.cleaner.specs.declared.CleanAnswer.{CleanAnswer}
+use Rattle.cleaner.specs.Packed.{Unpacks, cleanFields, overlapFields, packClean, packOverlap, CleanFits}
+use Rattle.cleaner.specs.Fitting.{unpacks, overlap-fits}
 
 -- ---- Demand 1: "an accepted answer or one of refusals 1 to 13, each on its listed condition and on no other". The conditions, in order, of Overlap:
 
@@ -117,6 +120,13 @@ module _ (image : List ℕ) (l : Lent) where
           → cleanAnswer image l ≡ record { answer = cleanedTo (length (encode (cleanResidualProgram w))) (length (formatCleanReport (cleanReport w))); lent = record { output = written (encode (cleanResidualProgram w)) (l .output); work = zeroed (l .work); report = written (formatCleanReport (cleanReport w)) (l .report) } }
       unfolding cleanDecoded writing
       cleaned k = decoded ∙ rw (accepted, le-ltb (length (l .report)) (length (formatCleanReport (cleanReport w))) k)
+
+-- An answer in one number, as the C names give it: number, middle and rest are found again in it, since they fit their bits. `showclean_clean` ensures `CleanFits` of Clean's answer, and an answer of Overlap always fits.
+pub clean-unpacks : (r : CleanAnswer) → CleanFits r → Unpacks (packClean r) (cleanFields r)
+clean-unpacks r h = unpacks (cleanFields r) h
+
+pub overlap-unpacks : (image : List ℕ) (first second : ℕ) → Unpacks (packOverlap (overlapAnswer image first second)) (overlapFields (overlapAnswer image first second))
+overlap-unpacks image first second = unpacks (overlapFields (overlapAnswer image first second)) (overlap-fits image first second)
 
 -- An image is accepted as a program exactly if it is the program's encoding and the program is within the limits.
 pub accepted-images : (image : List ℕ) (w : Program) → Bytes image → (decode image ≡ Answer.accepted w) ↔ ((image ≡ encode w) × Valid w)

@@ -1,5 +1,7 @@
 pub mod Answers
 pub mod CleanAnswers
+pub mod Packed
+pub mod Fitting
 pub mod Writing
 pub mod Alone
 pub mod Delivery

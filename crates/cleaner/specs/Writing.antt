@@ -1,5 +1,5 @@
 -- What the parts of Clean's code leave, for an accepted image.
-use Prim.Native.Nat.{ℕ, _≤_}
+use Prim.Native.Nat.{ℕ, _<_, _≤_}
 use mathlib.Core.Path.{_≡_}
 use mathlib.Core.Bool.{Bool}
 use mathlib.Core.List.{List}
@@ -26,3 +26,5 @@ pub record Wrote (w : Program) (output report : List ℕ) (answer : CleanAnswer)
   pub answers : (work : List ℕ) → answer ≡ writingOf w (lending output work report) .answer
   pub outputs : (work : List ℕ) → output′ ≡ writingOf w (lending output work report) .lent .output
   pub reports : (work : List ℕ) → report′ ≡ writingOf w (lending output work report) .lent .report
+  -- Its length fits 40 bits.
+  pub short : length (formatCleanReport (cleanReport w)) < 1099511627776

@@ -1,5 +1,6 @@
 // The entry points: every image and number is answered, and nothing is asked of the caller.
 mod alone;
+mod boundary;
 mod listed;
 mod told;
 mod whole;
@@ -15,6 +16,7 @@ ghost use lib.ListN.{length};
 ghost use Rattle.image.specs.Parts.{Accepted};
 ghost use Rattle.cleaner.specs.Answers.{overlapAnswer, compareSentences, comparePatterns};
 ghost use Rattle.cleaner.specs.CleanAnswers.{cleanRefused, cleanAnswer};
+ghost use Rattle.cleaner.specs.Packed.{CleanFits};
 ghost use Rattle.cleaner.specs.Writing.{lending};
 ghost use Rattle.cleaner.specs.Parts.{PatternFrom};
 
@@ -53,6 +55,7 @@ pub fn clean(img: &[u8], output: &mut [u8], work: &mut [u32], report: &mut [u8])
     ensures outputs { λ r. ⌜ now (output .exit) ≡ cleanAnswer (now (img .entry)) (lending (now (output .entry)) (now (work .entry)) (now (report .entry))) .lent .output ⌝ }
     ensures works { λ r. ⌜ now (work .exit) ≡ cleanAnswer (now (img .entry)) (lending (now (output .entry)) (now (work .entry)) (now (report .entry))) .lent .work ⌝ }
     ensures reports { λ r. ⌜ now (report .exit) ≡ cleanAnswer (now (img .entry)) (lending (now (output .entry)) (now (work .entry)) (now (report .entry))) .lent .report ⌝ }
+    ensures fits { λ r. ⌜ CleanFits r ⌝ }
 {
     if img.len() < 12 {
         return refused(1, 0);
@@ -84,17 +87,18 @@ fn no_sentence() -> OverlapAnswer
 }
 
 // The sentences at i and j of a body b, by their patterns. The search has entries of its own: one for each `e.` variable
-// of a body, twice, as a sentence may be compared with itself, and tables of 116 slots.
+// of a body, twice, as a sentence may be compared with itself, and tables of 48 slots.
 fn compare(b: &[u8], i: usize, j: usize) -> OverlapAnswer
     requires { ⌜ PatternFrom (now b) i × PatternFrom (now b) j × (length (now b) ≤ 32768) ⌝ }
     ensures { λ r. ⌜ ((x : PatternFrom (now (b .entry)) i) (y : PatternFrom (now (b .entry)) j) → r ≡ comparePatterns (x .terms) (y .terms)) ⌝ }
 {
     let p = i + 9;
     let q = j + 9;
-    let mut room = [0u32; 6656];
+    let mut room = [0u32; 6248];
     let lent = Room {
         frames: 5958,
-        slots: 116,
+        begun: 0,
+        slots: 48,
     };
     let f = overlap::patterns_overlap(b, p, q, &mut room, lent);
     let verdict = f.verdict;

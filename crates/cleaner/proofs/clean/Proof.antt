@@ -1,7 +1,9 @@
 -- `cleaner::clean` meets its contract. Assumes nothing.
 use denote.Ref.{now}
 use native.Mathlib.Omega.{arith}
-use mathlib.Core.Path.{_∙_}
+use mathlib.Core.Path.{sym, subst, _∙_}
+use Rattle.image.proofs.Loop.{bytes-of}
+use Rattle.cleaner.specs.Packed.{CleanFits}
 use Rattle.cleaner.proofs.Sentences.{accepted-of}
 use Rattle.cleaner.proofs.Ends.{ended-short, ended-long, ended-output, ended-work, ended-refused, ended-accepted, refused-is}
 use borrow.Author.Needs.{needs}
@@ -15,7 +17,7 @@ returns : tie.Need-returns
 returns c =
     let g = c .before .before .before .before .before .before .args in
     let e = ended-short (now (g .img)) (now (g .output)) (now (g .work)) (now (g .report)) (omega (arith, c .before .if1 .taken)) in
-    (c .refused .ensures ∙ e .answered, (e .outputs, (e .works, e .reports)))
+    (c .refused .ensures ∙ e .answered, (e .outputs, (e .works, (e .reports, subst CleanFits (sym (c .refused .ensures)) (e .fits)))))
 
 refused-requires-2 : tie.Need-refused-requires-2
 refused-requires-2 c κs = search needs
@@ -24,7 +26,7 @@ returns-2 : tie.Need-returns-2
 returns-2 c =
     let g = c .before .before .before .before .before .before .before .args in
     let e = ended-long (now (g .img)) (now (g .output)) (now (g .work)) (now (g .report)) (omega (arith, c .before .if2 .taken)) in
-    (c .refused2 .ensures ∙ e .answered, (e .outputs, (e .works, e .reports)))
+    (c .refused2 .ensures ∙ e .answered, (e .outputs, (e .works, (e .reports, subst CleanFits (sym (c .refused2 .ensures)) (e .fits)))))
 
 refused-requires-3 : tie.Need-refused-requires-3
 refused-requires-3 c κs = search needs
@@ -33,7 +35,7 @@ returns-3 : tie.Need-returns-3
 returns-3 c =
     let g = c .before .before .before .before .before .before .before .before .args in
     let e = ended-output (now (g .img)) (now (g .output)) (now (g .work)) (now (g .report)) (omega (arith, c .before .before .before .if1 .left)) (omega (arith, c .before .before .if2 .left)) (omega (arith, c .before .if3 .taken)) in
-    (c .refused3 .ensures ∙ e .answered, (e .outputs, (e .works, e .reports)))
+    (c .refused3 .ensures ∙ e .answered, (e .outputs, (e .works, (e .reports, subst CleanFits (sym (c .refused3 .ensures)) (e .fits)))))
 
 add-if4 : tie.Need-add-if4
 add-if4 c = search needs
@@ -45,7 +47,7 @@ returns-4 : tie.Need-returns-4
 returns-4 c =
     let g = c .before .before .before .before .before .before .before .before .before .args in
     let e = ended-work (now (g .img)) (now (g .output)) (now (g .work)) (now (g .report)) (omega (arith, c .before .before .before .before .if1 .left)) (omega (arith, c .before .before .before .if2 .left)) (omega (arith, c .before .before .if3 .left)) (omega (arith, c .before .if4 .taken)) in
-    (c .refused4 .ensures ∙ e .answered, (e .outputs, (e .works, e .reports)))
+    (c .refused4 .ensures ∙ e .answered, (e .outputs, (e .works, (e .reports, subst CleanFits (sym (c .refused4 .ensures)) (e .fits)))))
 
 check-requires : tie.Need-check-requires
 check-requires c κs = search needs
@@ -65,7 +67,7 @@ returns-5 c =
     let g = c .before .before .before .before .before .before .before .before .before .before .before .before .args in
     let f = c .before .v .given .0 .0 in
     let e = ended-refused (now (g .img)) (now (g .output)) (now (g .work)) (now (g .report)) (omega (arith, c .before .before .before .before .before .before .before .if1 .left)) (omega (arith, c .before .before .before .before .before .before .if2 .left)) (omega (arith, c .before .before .before .before .before .if3 .left)) (omega (arith, c .before .before .before .before .if4 .left)) (f .number) (f .place) (refused-is (now (g .img)) (c .before .before .before .check .result) f (c .before .before .before .check .ensures) (c .before .v .given .1)) in
-    (e .answered, (e .outputs, (e .works, e .reports)))
+    (e .answered, (e .outputs, (e .works, (e .reports, e .fits))))
 
 same-length : tie.Need-same-length
 same-length c = search needs
@@ -80,8 +82,8 @@ returns-6 : tie.Need-returns-6
 returns-6 c =
     let g = c .before .before .before .before .before .before .before .before .before .before .before .before .before .before .before .before .before .before .before .before .before .args in
     let a = accepted-of (now (g .img)) (c .before .before .before .before .before .before .before .before .before .before .before .before .check .result) (c .before .before .before .before .before .before .before .before .before .before .before .before .check .ensures) (c .before .before .before .before .before .before .before .before .before .before .enum-told .given .1) in
-    let e = ended-accepted (now (g .img)) (now (g .output)) (now (g .work)) (now (g .report)) (omega (arith, c .before .before .before .before .before .before .before .before .before .before .before .before .before .before .before .before .if1 .left)) (omega (arith, c .before .before .before .before .before .before .before .before .before .before .before .before .before .before .before .if2 .left)) (omega (arith, c .before .before .before .before .before .before .before .before .before .before .before .before .before .before .if3 .left)) (omega (arith, c .before .before .before .before .before .before .before .before .before .before .before .before .before .if4 .left)) a _ _ _ _ (c .before .before .before .before .before .before .clean-accepted .ensures .0 a) (c .before .before .before .before .before .before .clean-accepted .ensures .1) in
-    (e .answered, (e .outputs, (e .works, e .reports)))
+    let e = ended-accepted (now (g .img)) (now (g .output)) (now (g .work)) (now (g .report)) (omega (arith, c .before .before .before .before .before .before .before .before .before .before .before .before .before .before .before .before .if1 .left)) (omega (arith, c .before .before .before .before .before .before .before .before .before .before .before .before .before .before .before .if2 .left)) (omega (arith, c .before .before .before .before .before .before .before .before .before .before .before .before .before .before .if3 .left)) (omega (arith, c .before .before .before .before .before .before .before .before .before .before .before .before .before .if4 .left)) (bytes-of (now (g .img)) (λ i. omega (arith, c .before .before .before .before .before .before .before .before .before .before .before .before .before .before .before .before .before .before .before .before .shared-slice-known .given i))) a _ _ _ _ (c .before .before .before .before .before .before .clean-accepted .ensures .0 a) (c .before .before .before .before .before .before .clean-accepted .ensures .1) in
+    (e .answered, (e .outputs, (e .works, (e .reports, e .fits))))
 
 pub clean-spec : {M : Type 1} → statement M
 clean-spec =

@@ -8,6 +8,7 @@ use lib.Seq.{length-take-le}
 use Rattle.image.proofs.Loop.{bytes-of}
 use Rattle.image.proofs.Accepted.{accepted-long}
 use Rattle.cleaning.proofs.Room.{used-then}
+use Rattle.lines.proofs.Short.{report-short}
 use Rattle.lines.proofs.RoomUsed.{used-reporting}
 use Rattle.cleaner.specs.declared.CleanAnswer.{CleanAnswer}
 use Rattle.cleaner.specs.Writing.{Wrote}
@@ -90,6 +91,7 @@ returns : tie.Need-returns
 returns c = (
   λ a d.
       let g = (c .before .before .before .before .before .before .before .before .before .before .before .before .before .before .before .before .before .before .before .before .before .before .before .before .before) .args in
+      let few = (c .before .before .before .before .before .before .before .before .before .before .before .before .before .before .before .before .before .before .before .before .before .before .before .before .before) .pre .0 .few in
       let q = marks-are (g .work .now) (g .plan) ((c .before .before .before .before .before .before .before .before .before .before .before .before .before .before .before .before .before) .calls-of .ensures) in
       let e = (c .before .before .before .before .before .before .before .before .before .before .before .before .before .before) .count-ones .ensures (a .program .functions) (none-from a (g .plan) d q) ∙ after-told a (g .plan) d q in
       let f = (c .before .before .before .before .before .before .before .before .before .before .before) .count-lists .ensures .0 (a .program) (d .removing) e in
@@ -97,7 +99,7 @@ returns c = (
       let t = emitted-used u (a .program) (g .rounds) ((c .before .before .before .before) .measure-clean-report .ensures (a .program) (used-reporting u (record { removing = d .removing; figures = f .0 })) (d .root-is)) in
       let s = still ((c .before .before .before .before .before .before .before .before .before .before .before) .count-lists .last .1 .1 .1 .1 .1 .0) ((c .before .before .before .before) .measure-clean-report .last .1 .1 .1 .1 .1 .1 .0) (g .report .now) _ _ (f .1) t in
       subst (λ (x : CleanAnswer). Wrote (a .program) (g .output .now) (g .report .now) x (g .output .now) ((c .before .before .before .before) .measure-clean-report .last .1 .1 .1 .1 .1 .1 .0 ++ ((c .before .before .before .before .before .before .before .before .before .before .before) .count-lists .last .1 .1 .1 .1 .1 .0 ++ g .report .now))) (sym (c .refused .ensures))
-      (wrote-nothing (a .program) _ _ (image-told a (g .plan) d q) (text-told a (g .plan) d q) (g .output .now) (g .report .now) ((c .before .before .before .before) .measure-clean-report .result) (whole-length (t .after)) (omega (arith, (c .before) .if1 .taken, ap length s)) _ s),
+      (wrote-nothing (a .program) _ _ (image-told a (g .plan) d q) (text-told a (g .plan) d q) (report-short (d .removing .readable) _ (g .rounds) few) (g .output .now) (g .report .now) ((c .before .before .before .before) .measure-clean-report .result) (whole-length (t .after)) (omega (arith, (c .before) .if1 .taken, ap length s)) _ s),
   (c .before .before .before .before .before .before .before .before .before .before .before) .count-lists .ensures .1 .1 .length,
 )
 
@@ -138,6 +140,7 @@ returns-2 : tie.Need-returns-2
 returns-2 c = (
   λ a d.
       let g = (c .before .before .before .before .before .before .before .before .before .before .before .before .before .before .before .before .before .before .before .before .before .before .before .before .before .before .before .before .before .before .before .before .before .before .before .before .before) .args in
+      let few = (c .before .before .before .before .before .before .before .before .before .before .before .before .before .before .before .before .before .before .before .before .before .before .before .before .before .before .before .before .before .before .before .before .before .before .before .before .before) .pre .0 .few in
       let q = marks-are (g .work .now) (g .plan) ((c .before .before .before .before .before .before .before .before .before .before .before .before .before .before .before .before .before .before .before .before .before .before .before .before .before .before .before .before .before) .calls-of .ensures) in
       let e = (c .before .before .before .before .before .before .before .before .before .before .before .before .before .before .before .before .before .before .before .before .before .before .before .before .before .before) .count-ones .ensures (a .program .functions) (none-from a (g .plan) d q) ∙ after-told a (g .plan) d q in
       let f = (c .before .before .before .before .before .before .before .before .before .before .before .before .before .before .before .before .before .before .before .before .before .before .before) .count-lists .ensures .0 (a .program) (d .removing) e in
@@ -148,7 +151,7 @@ returns-2 c = (
       let s = still ((c .before .before .before .before .before .before .before .before .before .before .before .before .before .before .before .before .before .before .before .before .before .before .before) .count-lists .last .1 .1 .1 .1 .1 .0) ((c .before .before .before .before .before .before .before .before .before .before .before .before .before .before .before .before) .measure-clean-report .last .1 .1 .1 .1 .1 .1 .0) (g .report .now) _ _ (f .1) t in
       let k = (c .before .before) .write-kept .ensures a in
       let m = marks-are _ (g .plan) ((c .before .before .before .before .before .before .before .before .before .before .before .before .before .before .before .before .before .before .before .before .before .before .before .before .before .before .before .before .before) .calls-of .ensures) ∙ marks-used o (d .removing .readable .indexed .fits) in
-      wrote-all (a .program) _ _ (image-told a (g .plan) d m) (text-told a (g .plan) d q) (g .output .now) (g .report .now)
+      wrote-all (a .program) _ _ (image-told a (g .plan) d m) (text-told a (g .plan) d q) (report-short (d .removing .readable) _ (g .rounds) few) (g .output .now) (g .report .now)
       ((c .before .before) .write-kept .result) ((c .before .before .before .before .before .before .before .before .before .before .before .before .before .before .before .before) .measure-clean-report .result) (k .0) (whole-length (t .after)) (omega (arith, (c .before .before .before .before .before .before .before .before .before .before .before .before .before) .if1 .left, ap length s)) _ _
       (written-as _ (g .output .now) _ _ (k .0) (k .1)) (emitted-whole (g .report .now) _ _ _ _ s (emitted-used u (a .program) (g .rounds) ((c .before .before .before .before .before .before .before .before .before .before) .format-clean-report .ensures .0 (a .program) r (d .root-is))) (whole-fits {k = length (g .report .now)} (t .after) (omega (arith, (c .before .before .before .before .before .before .before .before .before .before .before .before .before) .if1 .left, ap length s)))),
   (c .before .before .before .before .before .before .before .before .before .before) .format-clean-report .ensures .1 .length ∙ (c .before .before .before .before .before .before .before .before .before .before .before .before .before .before .before .before .before .before .before .before .before .before .before) .count-lists .ensures .1 .1 .length,

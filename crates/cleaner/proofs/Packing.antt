@@ -1,0 +1,52 @@
+-- The fields of each kind of answer: they fit, and they are packed as the answer is.
+use Prim.Native.Nat.{ℕ}
+use mathlib.Core.Path.{_≡_, sym, ap, subst, _∙_}
+use mathlib.Core.List.{List}
+use Rattle.image.specs.declared.reader.Refusal.{Refusal}
+use Rattle.cleaner.specs.declared.CleanAnswer.{CleanAnswer}
+use Rattle.cleaner.specs.declared.OverlapAnswer.{OverlapAnswer}
+use Rattle.cleaner.specs.declared.Lengths.{Lengths}
+use Rattle.cleaner.specs.declared.Comparison.{Comparison}
+use Rattle.cleaner.specs.Answers.{overlapAnswer, verdictNumber}
+use Rattle.cleaner.specs.Packed.{packed, FieldsFit, cleanFields, overlapFields, packClean, packOverlap, CleanFits, OverlapFits}
+use Rattle.cleaner.specs.Fitting.{overlap-fits}
+
+-- ---- Clean
+
+pub cleaned-fits : (r : CleanAnswer) (l : Lengths) → CleanFits r → r ≡ CleanAnswer.Cleaned l → FieldsFit 0 (l .output) (l .report)
+unfolding cleanFields
+cleaned-fits r l h e = subst CleanFits e h
+
+pub refusal-fits : (r : CleanAnswer) (f : Refusal) → CleanFits r → r ≡ CleanAnswer.Refused f → FieldsFit (f .number) 0 (f .place)
+unfolding cleanFields
+refusal-fits r f h e = subst CleanFits e h
+
+pub cleaned-packed : (r s : CleanAnswer) (l : Lengths) → r ≡ CleanAnswer.Cleaned l → r ≡ s → packed 0 (l .output) (l .report) ≡ packClean s
+unfolding cleanFields
+cleaned-packed r s l e q = ap packClean (sym e ∙ q)
+
+pub refusal-packed : (r s : CleanAnswer) (f : Refusal) → r ≡ CleanAnswer.Refused f → r ≡ s → packed (f .number) 0 (f .place) ≡ packClean s
+unfolding cleanFields
+refusal-packed r s f e q = ap packClean (sym e ∙ q)
+
+-- ---- Overlap
+
+module _ (image : List ℕ) (first second : ℕ) (r : OverlapAnswer) (is : r ≡ overlapAnswer image first second) where
+  answer-fits : OverlapFits r
+  answer-fits = subst OverlapFits (sym is) (overlap-fits image first second)
+
+  pub compared-fits : (c : Comparison) (v : ℕ) → v ≡ verdictNumber (c .verdict) → r ≡ OverlapAnswer.Compared c → FieldsFit 0 v (c .spent)
+  unfolding overlapFields
+  compared-fits c v u e = subst (λ (n : ℕ). FieldsFit 0 n (c .spent)) (sym u) (subst OverlapFits e answer-fits)
+
+  pub no-comparison-fits : (f : Refusal) → r ≡ OverlapAnswer.Refused f → FieldsFit (f .number) 0 (f .place)
+  unfolding overlapFields
+  no-comparison-fits f e = subst OverlapFits e answer-fits
+
+  pub compared-packed : (c : Comparison) (v : ℕ) → v ≡ verdictNumber (c .verdict) → r ≡ OverlapAnswer.Compared c → packed 0 v (c .spent) ≡ packOverlap (overlapAnswer image first second)
+  unfolding overlapFields
+  compared-packed c v u e = ap (λ (n : ℕ). packed 0 n (c .spent)) u ∙ ap packOverlap (sym e ∙ is)
+
+  pub no-comparison-packed : (f : Refusal) → r ≡ OverlapAnswer.Refused f → packed (f .number) 0 (f .place) ≡ packOverlap (overlapAnswer image first second)
+  unfolding overlapFields
+  no-comparison-packed f e = ap packOverlap (sym e ∙ is)

@@ -1,0 +1,25 @@
+-- `cleaner::boundary::pack` meets its contract. Assumes nothing.
+use mathlib.Core.Path.{refl}
+use Rattle.cleaner.specs.Packed.{packed}
+use borrow.Author.Needs.{needs}
+use Rattle.cleaner.proofs.boundary.pack.Statement.{statement}
+use Rattle.cleaner.proofs.boundary.pack.Tie as tie
+
+mul-result : tie.Need-mul-result
+mul-result c = search needs
+
+add-result : tie.Need-add-result
+add-result c = search needs
+
+mul-result-2 : tie.Need-mul-result-2
+mul-result-2 c = search needs
+
+add-result-2 : tie.Need-add-result-2
+add-result-2 c = search needs
+
+returns : tie.Need-returns
+unfolding packed
+returns c = refl
+
+pub pack-spec : {M : Type 1} → statement M
+pack-spec = tie.close (tie.spec mul-result add-result mul-result-2 add-result-2 returns)

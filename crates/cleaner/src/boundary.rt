@@ -1,0 +1,66 @@
+// The entry points under C names, each with its answer packed into one number.
+use crate::CleanAnswer;
+use crate::OverlapAnswer;
+use crate::clean;
+use crate::overlap;
+use overlap::Verdict;
+ghost use mathlib.Core.Path.{_≡_};
+ghost use Rattle.cleaner.specs.Answers.{overlapAnswer, verdictNumber};
+ghost use Rattle.cleaner.specs.CleanAnswers.{cleanAnswer};
+ghost use Rattle.cleaner.specs.Packed.{packed, FieldsFit, packClean, packOverlap, CleanFits};
+ghost use Rattle.cleaner.specs.Writing.{lending};
+
+// Bits 0 to 7 the refusal's number or 0, 8 to 23 the middle, 24 to 63 the rest.
+fn pack(number: u64, middle: u64, rest: u64) -> u64
+    requires { ⌜ FieldsFit number middle rest ⌝ }
+    ensures { λ r. ⌜ r ≡ packed number middle rest ⌝ }
+{
+    number + 256 * middle + 16777216 * rest
+}
+
+// Clean: the middle is the length of the output, the rest the report's; or number and place.
+#[no_mangle]
+pub extern "C" fn showclean_clean(
+    img: &[u8],
+    output: &mut [u8],
+    work: &mut [u32],
+    report: &mut [u8],
+) -> u64
+    ensures answered { λ r. ⌜ r ≡ packClean (cleanAnswer (now (img .entry)) (lending (now (output .entry)) (now (work .entry)) (now (report .entry))) .answer) ⌝ }
+    ensures outputs { λ r. ⌜ now (output .exit) ≡ cleanAnswer (now (img .entry)) (lending (now (output .entry)) (now (work .entry)) (now (report .entry))) .lent .output ⌝ }
+    ensures works { λ r. ⌜ now (work .exit) ≡ cleanAnswer (now (img .entry)) (lending (now (output .entry)) (now (work .entry)) (now (report .entry))) .lent .work ⌝ }
+    ensures reports { λ r. ⌜ now (report .exit) ≡ cleanAnswer (now (img .entry)) (lending (now (output .entry)) (now (work .entry)) (now (report .entry))) .lent .report ⌝ }
+    ensures fits { λ r. ⌜ CleanFits (cleanAnswer (now (img .entry)) (lending (now (output .entry)) (now (work .entry)) (now (report .entry))) .answer) ⌝ }
+{
+    let answer = clean(img, output, work, report);
+    match answer {
+        CleanAnswer::Cleaned(l) => pack(0, l.output as u64, l.report as u64),
+        CleanAnswer::Refused(f) => pack(f.number as u64, 0, f.place as u64),
+    }
+}
+
+// A verdict as a number.
+fn verdict_number(verdict: Verdict) -> u64
+    ensures { λ r. ⌜ r ≡ verdictNumber verdict ⌝ }
+{
+    match verdict {
+        Verdict::Disjoint => 0,
+        Verdict::Overlap => 1,
+        Verdict::Unknown => 2,
+    }
+}
+
+// Overlap: the middle is the verdict, the rest the entries spent; or number and place.
+#[no_mangle]
+pub extern "C" fn showclean_overlap(img: &[u8], first: usize, second: usize) -> u64
+    ensures { λ r. ⌜ r ≡ packOverlap (overlapAnswer (now (img .entry)) first second) ⌝ }
+{
+    let answer = overlap(img, first, second);
+    match answer {
+        OverlapAnswer::Compared(c) => {
+            let verdict = c.verdict;
+            pack(0, verdict_number(verdict), c.spent as u64)
+        }
+        OverlapAnswer::Refused(f) => pack(f.number as u64, 0, f.place as u64),
+    }
+}

@@ -1,5 +1,6 @@
-// Appended to a copy of tools/oracle/main.rs by tools/figures/run.py, because its
-// functions between images and programs are private there. Nothing above is changed.
+// Appended to a copy of tools/oracle/main.rs by the run.py of tools/figures and of
+// tools/compare, because its functions between images and programs are private there.
+// Nothing above is changed.
 
 /// The program of an accepted image.
 pub fn program_of(image: &[u8]) -> CoreProgram {

@@ -11,7 +11,7 @@ use Rattle.image.specs.Syntax.{Function, Program}
 use Rattle.image.specs.Parts.{ownSentences}
 use Rattle.restrictions.specs.Entries.{Entry}
 use Rattle.index.specs.declared.Plan.{Plan}
-use Rattle.index.specs.Layout.{heads, lines, marks, calls, links}
+use Rattle.index.specs.Layout.{heads, lines, witnesses, marks, calls, links}
 use Rattle.index.specs.First.{First}
 use Rattle.index.specs.Tables.{sentencesBefore, FunctionEntry, SentenceEntry, Apart}
 use Rattle.index.specs.Tabled.{Tabled}
@@ -20,11 +20,13 @@ use Rattle.index.specs.Links.{listHead, entryNext, entryClass, isRepeat}
 use Rattle.index.proofs.First.{element-below}
 use Rattle.cleaning.specs.Root.{entryPlace, rootPlace}
 use Rattle.cleaning.specs.Kept.{isKept}
-use Rattle.cleaning.specs.History.{Told}
+use Rattle.cleaning.specs.History.{isThere, afterAll, Told}
 use Rattle.cleaning.specs.Indexed.{sitesOf, Indexed, fellOf}
 use Rattle.cleaning.specs.Prepared.{ProgramLinked}
+use Rattle.cleaning.specs.Walks.{Witnessed}
 use Rattle.cleaning.specs.RoundDone.{RoundsReady, RoundsMade}
 use Rattle.cleaning.proofs.Indexed.{only-rounds-indexed}
+use Rattle.cleaning.proofs.Witnesses.{witnessed-kept}
 use Rattle.output.proofs.MarkPart.{fell-apart}
 use Rattle.cleaner.specs.Delivery.{marksIn}
 use Rattle.cleaner.specs.Done.{Done}
@@ -77,9 +79,14 @@ pub rounds-done : {b : List ℕ} {w : Program} {start old new : List ℕ} {p : P
     → ((s : ℕ) → isKept (marksIn p new) s ≡ (ltb s (p .sentences) && eqb (fellOf p old s) 0)) → Done b w new p root n
 rounds-done {b} {w} {start} {old} {new} {p} {root} {n} h r m a k =
     let e = fun-ext (fell-apart p old new a) in
+    let d = only-rounds-indexed (m .only) (r .indexed) in
     record {
       removing = record {
-        readable = record { indexed = marks-indexed a (only-rounds-indexed (m .only) (r .indexed)); short = h };
+        readable = record {
+          indexed = marks-indexed a d;
+          short = h;
+          witnessed = subst (λ (f : ℕ → ℕ). Witnessed (isThere f afterAll) w new p) (sym e) (witnessed-kept (d .sentences) (λ s l. a .before (witnesses p + s) (omega arith)) (m .witnessed));
+        };
         told = subst (λ (f : ℕ → ℕ). Told w f n) (sym e) (m .told);
         below = λ s. omega (arith, fell-apart p old new a s, m .below s);
       };

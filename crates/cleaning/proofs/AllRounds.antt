@@ -19,10 +19,10 @@ use Rattle.cleaning.specs.Cleaning.{round, isRoot}
 use Rattle.cleaning.specs.Kept.{keptProgram}
 use Rattle.cleaning.specs.History.{isThere, FunctionsLeft, RoundTold, startOf, someNumber, someFell}
 use Rattle.cleaning.specs.Indexed.{sitesOf, Indexed, fellOf, OnlyRounds}
-use Rattle.cleaning.specs.Walks.{WitnessOf}
+use Rattle.cleaning.specs.Walks.{WitnessOf, Witnessed}
 use Rattle.cleaning.specs.RoundDone.{RoundReady, RoundMade, RoundsReady, RoundsMade}
 use Rattle.cleaning.proofs.Counts.{round-fewer}
-use Rattle.cleaning.proofs.History.{there-first, round-left, round-drops}
+use Rattle.cleaning.proofs.History.{there-first, there-after, round-left, round-drops}
 use Rattle.cleaning.proofs.Indexed.{only-rounds-indexed}
 use Rattle.cleaning.proofs.Kept.{all-kept}
 use Rattle.cleaning.proofs.RoundCode.{only-same, only-on}
@@ -140,4 +140,5 @@ module _ {b : List ℕ} {w : Program} {old one : List ℕ} {p : Plan} {root r : 
     };
     below = m .below;
     few = h .ready .few;
+    witnessed = subst (λ (k : ℕ → Bool). Witnessed k w two p) (there-after (fellOf p two) (suc r) (m .below) (omega (arith, h .ready .few))) (m .witnessed);
   }

@@ -5,7 +5,7 @@ use mathlib.Core.Path.{_≡_, refl, sym, ap, ap₂, fun-ext, _∙_, subst}
 use mathlib.Core.Bool.{Bool, true, false, _&&_, _||_, not, cond, true≢false, false≢true, or-true}
 use mathlib.Core.List.{List, [], _∷_, map}
 use lib.Dec.{eqb, leb}
-use borrow.Author.Tests.{le-leb}
+use borrow.Author.Tests.{le-leb, lt-leb}
 use Rattle.image.specs.Syntax.{Terms, Sentences, empty, sentence, Function, Program}
 use Rattle.image.specs.Encode.{sentenceCount, ownSentenceCount}
 use Rattle.image.specs.Parts.{Sentence, sentenceList, ownSentences}
@@ -20,7 +20,7 @@ use Rattle.cleaning.specs.Cleaning.{Standing, standing, rejected, accept
 use Rattle.cleaning.specs.Kept.{keptSentences, keptFunction, keptFunctions, keptProgram}
 use Rattle.cleaning.specs.KeptSites.{keptSites}
 use Rattle.cleaning.specs.Asked.{isRejected}
-use Rattle.cleaning.specs.History.{isThere, someAccepted, SentencesLeft, rejects, FunctionsLeft, RoundTold, startOf, roundsTold, numbered, someNumber, someFell, Told}
+use Rattle.cleaning.specs.History.{isThere, afterAll, someAccepted, SentencesLeft, rejects, FunctionsLeft, RoundTold, startOf, roundsTold, numbered, someNumber, someFell, Told}
 use Rattle.cleaning.proofs.Bound.{rounds-unfold}
 use Rattle.cleaning.proofs.Kept.{all-kept}
 use Rattle.cleaning.proofs.KeptSites.{kept-sites}
@@ -221,6 +221,11 @@ there-first fell s = by (fell s)
     by : (n : ℕ) → (eqb n 0 || leb 1 n) ≡ true
     by zero = refl
     by (suc n) = ap (λ (t : Bool). eqb (suc n) 0 || t) (le-leb 1 (suc n) (omega arith)) ∙ or-true (eqb (suc n) 0)
+
+-- What is there after the last fall never fell.
+pub there-after : (fell : ℕ → ℕ) (r : ℕ) → ((s : ℕ) → fell s < r) → r ≤ afterAll → isThere fell r ≡ isThere fell afterAll
+unfolding isThere
+there-after fell r below l = fun-ext (λ s. ap (λ (t : Bool). eqb (fell s) 0 || t) (lt-leb r (fell s) (below s) ∙ sym (lt-leb afterAll (fell s) (omega (arith, below s, l)))))
 
 module _ (w : Program) (fell : ℕ → ℕ) where
   abbrev sites : List Held

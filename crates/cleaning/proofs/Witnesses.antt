@@ -1,5 +1,5 @@
 -- A sentence's witness: where the search for a site that meets its pattern begins, and what it leaves.
-use Prim.Native.Nat.{ℕ, zero, suc, _+_, _%_, _≤_}
+use Prim.Native.Nat.{ℕ, zero, suc, _+_, _%_, _≤_, _<_}
 use native.Mathlib.Omega.{arith}
 use mathlib.Core.Path.{_≡_, refl, sym, ap, subst, _∙_}
 use mathlib.Core.Bool.{Bool, true, false, _&&_, not, and-eq-true-iff}
@@ -7,20 +7,23 @@ use mathlib.Core.List.{List, _∷_}
 use mathlib.Core.Option.{some}
 use borrow.Author.Tests.{ltb-true, ltb-false, eq-eqb, ne-eqb}
 use lib.Dec.{eqb, ltb}
-use lib.ListN.{length, set, getElem?, drop, length-set}
+use lib.ListN.{length, getD, set, getElem?, drop, length-set}
 use lib.Seq.{drop-drop, getD-set-other}
-use Rattle.image.specs.Syntax.{Name, Terms}
+use Rattle.image.specs.Syntax.{Name, Terms, Program}
 use Rattle.image.specs.Bytes.{putSpan, put32}
 use Rattle.image.specs.Encode.{putHead, putTerms, putConditions}
 use Rattle.image.specs.Limits.{Mode, ValidTerms}
-use Rattle.image.specs.Parts.{TermsAt, Sentence, putSentence}
+use Rattle.image.specs.Parts.{TermsAt, Sentence, putSentence, ownSentences}
 use Rattle.restrictions.specs.Entries.{Held}
+use Rattle.index.specs.declared.Plan.{Plan}
+use Rattle.index.specs.Layout.{witnesses}
 use Rattle.index.specs.First.{First}
 use Rattle.index.specs.Tables.{SentenceEntry}
 use Rattle.index.specs.Calls.{isListed}
 use Rattle.index.proofs.First.{element-below, element-same, first-any}
 use Rattle.cleaning.specs.Asked.{restricts, isMet, meets}
-use Rattle.cleaning.specs.Walks.{OnList, NoneMet, WitnessOf, witnessFrom, StillMet, OneEntry}
+use Rattle.cleaning.specs.Indexed.{sitesOf}
+use Rattle.cleaning.specs.Walks.{OnList, NoneMet, WitnessOf, Witnessed, witnessFrom, StillMet, OneEntry}
 use Rattle.cleaning.proofs.Meeting.{meets-listed, meets-less}
 
 -- ---- a sentence's pattern, 9 bytes after its place
@@ -94,6 +97,20 @@ module _ (keep : ℕ → Bool) (f : Name) (t : Terms) (sites : List Held) where
       by : (u : Bool) → ltb n (length sites) ≡ u → eqb (suc n) (suc (length sites)) ≡ not (ltb n (length sites))
       by true z = ne-eqb (suc n) (suc (length sites)) (λ q. let l = ltb-true n (length sites) z in omega arith) ∙ ap not (sym z)
       by false z = let l = ltb-false n (length sites) z in eq-eqb (suc n) (suc (length sites)) (omega (arith, g .within)) ∙ ap not (sym z)
+
+  -- What it tells of a site that is there.
+  pub unmet-before : (d : ℕ) → WitnessOf keep f t sites d → (i : ℕ) (x : Held) → getElem? sites i ≡ some x → isListed true f x ≡ true → keep (x .sentence) ≡ true → suc i < d → isMet t x ≡ false
+  unmet-before zero a i x e l k h = absurd (omega (arith, h))
+  unmet-before (suc n) a i x e l k h = ap (λ (u : Bool). u && isMet t x) (sym k) ∙ (sym (meets-listed keep f t x l) ∙ a .before n refl i x (omega (arith, h)) e)
+
+  pub met-itself : (d : ℕ) → WitnessOf keep f t sites d → (i : ℕ) (x : Held) → getElem? sites i ≡ some x → suc i ≡ d → isMet t x ≡ true
+  met-itself d a i x e h = a .itself i x (sym h) e .1
+
+-- Witnesses are read from their column.
+pub witnessed-kept : {keep : ℕ → Bool} {w : Program} {old new : List ℕ} {p : Plan} → length (ownSentences (w .functions)) ≡ p .sentences → ((s : ℕ) → s < p .sentences → getD new (witnesses p + s) 0 ≡ getD old (witnesses p + s) 0) → Witnessed keep w old p → Witnessed keep w new p
+witnessed-kept {keep} {w} {p} c e h = record {
+  witness = λ f x s y o. subst (λ (d : ℕ). WitnessOf keep (x .name) (y .pattern) (sitesOf w) d) (sym (e s (omega (arith, element-below (ownSentences (w .functions)) s y (o .sentence), c)))) (h .witness f x s y o);
+}
 
 -- ---- one entry is written
 

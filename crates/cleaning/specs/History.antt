@@ -18,6 +18,10 @@ use Rattle.cleaning.specs.Asked.{isRejected}
 unfoldable pub isThere : (ℕ → ℕ) → ℕ → ℕ → Bool
 isThere fell r s = eqb (fell s) 0 || leb r (fell s)
 
+-- No round has this number, since numbers of rounds have 12 bits: what is there then never fell.
+abbrev pub afterAll : ℕ
+afterAll = 4096
+
 -- Whether one of the sentences that are there, the first of them number i, is not rejected.
 unfoldable pub someAccepted : (Terms → Bool) → (ℕ → Bool) → ℕ → Sentences → Bool
 someAccepted reject keep i empty = false

@@ -14,7 +14,7 @@ use Rattle.index.specs.Layout.{lines, witnesses}
 use Rattle.index.specs.Tables.{sentencesBefore, Apart}
 use Rattle.cleaning.specs.Root.{rootPlace}
 use Rattle.cleaning.specs.Asked.{meets}
-use Rattle.cleaning.specs.History.{isThere, someAccepted, rejects, RoundTold, someNumber, someFell, Told}
+use Rattle.cleaning.specs.History.{isThere, afterAll, someAccepted, rejects, RoundTold, someNumber, someFell, Told}
 use Rattle.cleaning.specs.Indexed.{sitesOf, Indexed, fellOf, OnlyRounds}
 use Rattle.cleaning.specs.Walks.{Owns, OneEntry, WitnessOf, Witnessed}
 
@@ -154,4 +154,5 @@ pub record RoundsMade (w : Program) (old new : List ℕ) (p : Plan) (n : ℕ) : 
   pub only : OnlyRounds p old new
   pub told : Told w (fellOf p new) n
   pub below : (s : ℕ) → fellOf p new s < suc n
-  pub few : n < 4096
+  pub few : n < afterAll
+  pub witnessed : Witnessed (isThere (fellOf p new) afterAll) w new p

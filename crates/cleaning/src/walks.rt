@@ -139,7 +139,7 @@ fn meeting_from(
 }
 
 // Where the search for a site that meets the sentence s of the f-th function begins: at its witness, or at the list's head.
-fn witness_of(work: &[u32], plan: Plan, f: usize, s: usize) -> usize
+pub fn witness_of(work: &[u32], plan: Plan, f: usize, s: usize) -> usize
     requires { ⌜ (f < plan .functions) × (s < plan .sentences) × (room plan ≤ length (now work)) × (length (now work) ≤ 8192) ⌝ }
     ensures { λ r. ⌜ r ≡ witnessFrom (getD (now (work .entry)) (witnesses plan + s) 0) (listHead true (getD (now (work .entry)) (heads plan + f) 0)) ⌝ }
 {

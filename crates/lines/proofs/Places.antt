@@ -14,11 +14,12 @@ use Rattle.symbols.proofs.Parts.{part-rest}
 use Rattle.overlap.proofs.Readings.{part}
 use Rattle.index.specs.declared.Plan.{Plan}
 use Rattle.index.specs.Layout.{lines}
-use Rattle.index.proofs.First.{Element, element-at}
+use Rattle.index.proofs.First.{Element, element-at, element-below}
 use Rattle.index.proofs.Functions.{name-is}
 use Rattle.cleaning.specs.Text.{formatTerms}
 use Rattle.cleaning.proofs.Meeting.{pattern-part}
 use Rattle.cleaning.proofs.Witnesses.{pattern-there}
+use Rattle.cleaning.specs.Walks.{Owns}
 use Rattle.report.proofs.Terms.{terms-text-fits}
 use Rattle.lines.specs.Emitting.{Readable}
 
@@ -40,6 +41,12 @@ module _ {b : List ℕ} {w : Program} {m : List ℕ} {p : Plan} (d : Readable b 
 
   pub sentence-of : (s : ℕ) → s < p .sentences → Element (ownSentences (w .functions)) s
   sentence-of s h = element-at (ownSentences (w .functions)) s (omega (arith, d .indexed .sentences))
+
+  pub owner-below : {f s : ℕ} {x : Function} {y : Sentence} → Owns w f x s y → f < p .functions
+  owner-below {f} {x} o = omega (arith, element-below (w .functions) f x (o .function), d .indexed .functions)
+
+  pub owned-below : {f s : ℕ} {x : Function} {y : Sentence} → Owns w f x s y → s < p .sentences
+  owned-below {s} {y} o = omega (arith, element-below (ownSentences (w .functions)) s y (o .sentence), d .indexed .sentences)
 
   pub named-at : (f : ℕ) (x : Function) → getElem? (w .functions) f ≡ some x → (n : ℕ) → n ≡ getD m f 0 % 32768 → NamedAt b n (x .name)
   named-at f x e n z =

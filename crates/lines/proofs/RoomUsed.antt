@@ -2,17 +2,20 @@
 use Prim.Native.Nat.{ℕ, suc, _+_, _<_}
 use native.Mathlib.Omega.{arith}
 use mathlib.Core.Path.{_≡_, sym, ap, subst, _∙_}
+use mathlib.Core.Bool.{Bool}
 use mathlib.Core.List.{List}
 use lib.ListN.{getD}
 use Rattle.image.specs.Syntax.{Program}
 use Rattle.index.specs.declared.Plan.{Plan}
-use Rattle.index.specs.Layout.{calls, links}
+use Rattle.index.specs.Layout.{witnesses, calls, links}
 use Rattle.index.specs.Links.{entryNext}
-use Rattle.cleaning.specs.History.{isThere, Told}
+use Rattle.cleaning.specs.History.{isThere, afterAll, Told}
 use Rattle.cleaning.specs.Indexed.{fellOf}
 use Rattle.cleaning.specs.Room.{Remembering, Used}
+use Rattle.cleaning.specs.Walks.{Witnessed}
 use Rattle.cleaning.specs.ToldReport.{toldReport}
 use Rattle.cleaning.proofs.Room.{used-fell, used-indexed}
+use Rattle.cleaning.proofs.Witnesses.{witnessed-kept}
 use Rattle.lines.specs.declared.format.Figures.{Figures}
 use Rattle.lines.specs.Emitting.{Readable, SomeReadable}
 use Rattle.lines.specs.Leading.{SomeSite}
@@ -32,7 +35,11 @@ module _ {b : List ℕ} {p : Plan} {old new : List ℕ} (u : Used b p old new) w
   used-next from i e h v z = z ∙ (ap (λ (k : ℕ). entryNext (getD new (k + p .sites + i) 0)) e ∙ ap entryNext (u .columns (links p + i) (omega arith)))
 
   pub used-readable : {w : Program} → Readable b w old p → Readable b w new p
-  used-readable d = record { indexed = used-indexed u (d .indexed); short = d .short }
+  used-readable {w} d = record {
+    indexed = used-indexed u (d .indexed);
+    short = d .short;
+    witnessed = subst (λ (k : ℕ → Bool). Witnessed k w new p) (sym (used-keep afterAll)) (witnessed-kept (d .indexed .sentences) (λ s l. u .columns (witnesses p + s) (omega arith)) (d .witnessed));
+  }
 
   pub used-some : SomeReadable b old p → SomeReadable b new p
   used-some s = record { program = s .program; readable = used-readable (s .readable) }

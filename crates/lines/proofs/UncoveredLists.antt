@@ -2,7 +2,7 @@
 use Prim.Native.Nat.{ℕ, zero, suc, _+_, _-_, _<_, _≤_}
 use native.Mathlib.Omega.{arith}
 use mathlib.Core.Path.{_≡_, refl, sym, ap, ap₂, _∙_}
-use mathlib.Core.Bool.{Bool, true, false, _&&_, not, cond, or-false}
+use mathlib.Core.Bool.{Bool, true, false, _&&_, not, cond, or-false, and-eq-true-iff}
 use mathlib.Core.List.{List, [], _∷_, _++_, map, flatten}
 use mathlib.Core.Option.{Option, none, some}
 use borrow.Author.Tests.{ltb-true, ltb-false}
@@ -23,7 +23,7 @@ use Rattle.index.specs.Calls.{isListed}
 use Rattle.index.specs.Tables.{sentencesBefore}
 use Rattle.restrictions.proofs.Numbered.{sentences-counted}
 use Rattle.index.proofs.First.{element-below, element-same}
-use Rattle.cleaning.specs.Asked.{restricts, isJudged}
+use Rattle.cleaning.specs.Asked.{restricts, isMet, isJudged}
 use Rattle.cleaning.specs.Cleaning.{isDisjoint}
 use Rattle.cleaning.specs.CleanReport.{UncoveredRestriction, sameUncovered}
 use Rattle.cleaning.specs.History.{numbered}
@@ -80,6 +80,10 @@ uncovered-text x y = refl
 
 pub covers-gone : (t u : Bool) → t ≡ false → false ≡ (t && u)
 covers-gone t u e = sym (ap (λ (v : Bool). v && u) e)
+
+pub covers-known : (t : Bool) → t ≡ true → (a : Terms) (y : Held) (r : Bool) → isMet a y ≡ r → r ≡ (t && not (isDisjoint (patternsOverlap a (y .site .argument))))
+unfolding isMet
+covers-known t e a y r h = sym (ap (λ (u : Bool). u && not (isDisjoint (patternsOverlap a (y .site .argument)))) e ∙ h)
 
 pub covers-asked : (t : Bool) → t ≡ true → (a b : Terms) (v : Verdict) → v ≡ patternsOverlap a b → (r : Bool) → r ≡ steps.isDisjoint v → not r ≡ (t && not (isDisjoint (patternsOverlap a b)))
 covers-asked t e a b v z r k = ap not (k ∙ (disjoint-same v ∙ ap isDisjoint z)) ∙ sym (ap (λ (u : Bool). u && not (isDisjoint (patternsOverlap a b))) e)
@@ -181,6 +185,13 @@ module _ (keep : ℕ → Bool) (w : Program) (f : ℕ) (x : Function) (e : getEl
 leading-not : (keep : ℕ → Bool) (f : Name) (sites : List Held) (i : ℕ) (y : Held) → isListed true f y ≡ false → isLeading keep f sites i y ≡ false
 unfolding isLeading restricts
 leading-not keep f sites i y e = ap (λ (t : Bool). t && not (any (λ z. restricts keep f z && sameConfiguration (z .site .argument) (y .site .argument)) (take i sites))) (and-none (isListed true f y) (keep (y .sentence)) e)
+
+-- A site that leads is there.
+pub leading-there : (keep : ℕ → Bool) (f : Name) (sites : List Held) (i : ℕ) (y : Held) → isLeading keep f sites i y ≡ true → keep (y .sentence) ≡ true
+unfolding isLeading restricts
+leading-there keep f sites i y e =
+    let a = and-eq-true-iff (keep (y .sentence) && isListed true f y) (not (any (λ z. restricts keep f z && sameConfiguration (z .site .argument) (y .site .argument)) (take i sites))) .0 e in
+    and-eq-true-iff (keep (y .sentence)) (isListed true f y) .0 (a .0) .0
 
 module _ (keep : ℕ → Bool) (sites : List Held) where
   module _ (x : Function) (k i : ℕ) (y : Held) where

@@ -2,12 +2,13 @@
 use Prim.Native.Nat.{ℕ, suc, _+_, _<_, _≤_}
 use native.Mathlib.Omega.{arith}
 use mathlib.Core.Path.{_≡_, refl, sym, ap, subst, _∙_}
-use mathlib.Core.Bool.{Bool, true, false, _&&_}
+use mathlib.Core.Bool.{Bool, true, false, _&&_, not}
 use mathlib.Core.List.{List}
 use mathlib.Core.Option.{some}
 use borrow.Author.Tests.{lt-ltb, le-ltb}
 use lib.ListN.{length, getD, getElem?}
 use Rattle.image.specs.Syntax.{Name, Terms, Function, Program}
+use Rattle.image.specs.Parts.{Sentence}
 use Rattle.overlap.specs.declared.Verdict.{Verdict}
 use Rattle.overlap.specs.declared.Verdict.the-variants.{Disjoint, Overlap, Unknown}
 use Rattle.overlap.specs.Search.{patternsOverlap}
@@ -15,17 +16,21 @@ use Rattle.overlap.specs.Steps as steps
 use Rattle.restrictions.specs.Lists.{any}
 use Rattle.restrictions.specs.Entries.{Held, entrySentence}
 use Rattle.index.specs.declared.Plan.{Plan}
-use Rattle.index.specs.Layout.{calls, links}
+use Rattle.index.specs.Layout.{heads, witnesses, calls, links}
 use Rattle.index.specs.First.{First}
 use Rattle.index.specs.Calls.{isListed}
-use Rattle.index.specs.Links.{entryNext}
+use Rattle.index.specs.Links.{entryNext, listHead}
 use Rattle.index.proofs.First.{Element, first-any}
-use Rattle.cleaning.specs.Asked.{restricts}
+use Rattle.cleaning.specs.Asked.{restricts, isMet, meets}
 use Rattle.cleaning.specs.Cleaning.{isDisjoint}
 use Rattle.cleaning.specs.CleanReport.{isOverlap}
-use Rattle.cleaning.specs.Indexed.{sitesOf, Indexed}
+use Rattle.cleaning.specs.History.{isThere, afterAll}
+use Rattle.cleaning.specs.Indexed.{sitesOf, Indexed, fellOf}
+use Rattle.cleaning.specs.Walks.{Owns, witnessFrom}
 use Rattle.cleaning.specs.ToldReport.{overlaps}
 use Rattle.cleaning.proofs.Meeting.{number-is, site-element}
+use Rattle.cleaning.proofs.Witnesses.{begins-at}
+use Rattle.lines.specs.Emitting.{Readable}
 use Rattle.cleaning.proofs.Walking.{and-left, and-none, Going, going-end, going-found, going-next}
 
 pub overlap-same : (v : Verdict) → steps.isOverlap v ≡ isOverlap v
@@ -40,7 +45,19 @@ disjoint-same Disjoint = refl
 disjoint-same Overlap = refl
 disjoint-same Unknown = refl
 
+-- Where nothing is met, nothing overlaps.
+unmet-verdict : (u : Bool) (v : Verdict) → (u && not (isDisjoint v)) ≡ false → (u && isOverlap v) ≡ false
+unfolding isDisjoint isOverlap
+unmet-verdict true Disjoint e = refl
+unmet-verdict true Overlap e = e
+unmet-verdict true Unknown e = refl
+unmet-verdict false v e = refl
+
 module _ (keep : ℕ → Bool) (f : Name) (t : Terms) (y : Held) where
+  pub overlaps-unmet : meets keep f t y ≡ false → overlaps keep f t y ≡ false
+  unfolding meets isMet overlaps
+  overlaps-unmet e = unmet-verdict (restricts keep f y) (patternsOverlap t (y .site .argument)) e
+
   pub overlaps-listed : isListed true f y ≡ true → overlaps keep f t y ≡ (keep (y .sentence) && isOverlap (patternsOverlap t (y .site .argument)))
   unfolding overlaps restricts
   overlaps-listed l = ap (λ (u : Bool). u && isOverlap (patternsOverlap t (y .site .argument))) (and-left (isListed true f y) (keep (y .sentence)) l)
@@ -88,3 +105,13 @@ module _ {b : List ℕ} {w : Program} {m : List ℕ} {p : Plan} (d : Indexed b w
         walk-next t n z =
             let a = walk-after n z in
             (going-next g (walk-element .element) (walk-element .is) less t a, omega (arith, a .later))
+
+-- It begins at the witness: what is before it is not met.
+module _ {b : List ℕ} {w : Program} {m : List ℕ} {p : Plan} (d : Readable b w m p) {f s : ℕ} {x : Function} {y : Sentence} (o : Owns w f x s y) where
+  pub walk-first : (i : ℕ) → i ≡ witnessFrom (getD m (witnesses p + s) 0) (listHead true (getD m (heads p + f) 0))
+      → Going (isListed true (x .name)) (overlaps (isThere (fellOf p m) afterAll) (x .name) (y .pattern)) 0 (sitesOf w) i
+  walk-first i z =
+      let keep = isThere (fellOf p m) afterAll in
+      let a = begins-at keep (x .name) (y .pattern) (sitesOf w) (getD m (witnesses p + s) 0) (listHead true (getD m (heads p + f) 0)) (d .indexed .headed .head true f x (o .function)) (d .witnessed .witness f x s y o) in
+      subst (λ (k : ℕ). Going (isListed true (x .name)) (overlaps keep (x .name) (y .pattern)) 0 (sitesOf w) k) (sym z)
+      (record { later = omega arith; within = a .0 .within; none = λ k u l h e. overlaps-unmet keep (x .name) (y .pattern) u (a .1 k u h e); found = a .0 .listed })

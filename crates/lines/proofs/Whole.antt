@@ -2,7 +2,7 @@
 use Prim.Native.Nat.{ℕ, suc, _+_, _*_, _<_, _≤_}
 use native.Mathlib.Omega.{arith}
 use mathlib.Core.Path.{_≡_, refl, sym, ap, ap₂, subst, _∙_}
-use mathlib.Core.Bool.{false}
+use mathlib.Core.Bool.{Bool, false}
 use mathlib.Core.List.{List, [], _∷_, _++_, map, flatten, flatMap, append-assoc}
 use lib.ListN.{length, length-append, length-map}
 use Rattle.image.specs.Syntax.{Program}
@@ -15,9 +15,10 @@ use Rattle.cleaning.specs.Root.{rootPlace}
 use Rattle.symbols.specs.Ascii.{ascii}
 use Rattle.cleaning.specs.Text.{Text}
 use Rattle.cleaning.specs.CleanReport.{RemovedSentence, UndecidedSentence, UncoveredRestriction, CleanReport, sameUndecided, sameUncovered}
-use Rattle.cleaning.specs.History.{isThere}
+use Rattle.cleaning.specs.History.{isThere, afterAll}
 use Rattle.cleaning.specs.Indexed.{sitesOf}
 use Rattle.cleaning.specs.ToldReport.{fallenFrom, sameFallen, removedOf, undecidedTold, uncoveredTold, runsAfter, openedNames, toldReport}
+use Rattle.cleaning.proofs.History.{there-after}
 use Rattle.report.specs.Fill.{Emitted}
 use Rattle.report.specs.Report.{removedLine, undecidedLine, uncoveredLine, uncharacterisedLine, dispatchLine, perfection, graphLine, lastLines, formatCleanReport}
 use Rattle.report.proofs.Fill.{filled-empty, emitted-append, emitted-same, emitted-length}
@@ -55,48 +56,49 @@ module _ {s bytes : List ℕ} {p r : ℕ} where
   uncovered-few l e = omega (arith, e .after, lines-many uncoveredLine uncovered-some l)
 
 module _ (w : Program) (fell : ℕ → ℕ) (n : ℕ) where
-  next-is : n + 1 ≡ suc n
-  next-is = omega arith
-
   -- The lists as they are emitted.
   abbrev pub removedNow : List RemovedSentence
   removedNow = map (removedOf w fell) (firsts sameFallen (fallenFrom w fell 1 n))
 
   abbrev pub undecidedNow : List UndecidedSentence
-  undecidedNow = runsAfter sameUndecided [] (undecidedTold (isThere fell (n + 1)) (sitesOf w) 0 (w .functions))
+  undecidedNow = runsAfter sameUndecided [] (undecidedTold (isThere fell afterAll) (sitesOf w) 0 (w .functions))
 
   abbrev pub uncoveredNow : List UncoveredRestriction
-  uncoveredNow = runsAfter sameUncovered [] (uncoveredTold (isThere fell (n + 1)) (sitesOf w) 0 (w .functions))
-
-  undecided-is : undecidedNow ≡ toldReport w fell n .undecided
-  unfolding toldReport
-  undecided-is = ap (λ (k : ℕ). runsAfter sameUndecided [] (undecidedTold (isThere fell k) (sitesOf w) 0 (w .functions))) next-is
-
-  uncovered-is : uncoveredNow ≡ toldReport w fell n .uncovered
-  unfolding toldReport
-  uncovered-is = ap (λ (k : ℕ). runsAfter sameUncovered [] (uncoveredTold (isThere fell k) (sitesOf w) 0 (w .functions))) next-is
+  uncoveredNow = runsAfter sameUncovered [] (uncoveredTold (isThere fell afterAll) (sitesOf w) 0 (w .functions))
 
   removed-is : removedNow ≡ toldReport w fell n .removed
   unfolding toldReport
   removed-is = refl
 
-  pub figures-told : (g : Figures) → g .after ≡ toldReport w fell n .sentencesAfter → g .removed ≡ length (firsts sameFallen (fallenFrom w fell 1 n)) → g .undecided ≡ length undecidedNow → g .uncovered ≡ length uncoveredNow
-      → g .«removed_length» ≡ length (flatMap removedLine removedNow) → g .«undecided_length» ≡ length (flatMap undecidedLine undecidedNow) → g .«uncovered_length» ≡ length (flatMap uncoveredLine uncoveredNow) → FiguresOf (toldReport w fell n) g
+module _ (w : Program) (fell : ℕ → ℕ) (n : ℕ) (below : (s : ℕ) → fell s < suc n) (few : n < afterAll) where
+  after-is : isThere fell afterAll ≡ isThere fell (suc n)
+  after-is = sym (there-after fell (suc n) below (omega (arith, few)))
+
+  undecided-is : undecidedNow w fell n ≡ toldReport w fell n .undecided
+  unfolding toldReport
+  undecided-is = ap (λ (k : ℕ → Bool). runsAfter sameUndecided [] (undecidedTold k (sitesOf w) 0 (w .functions))) after-is
+
+  uncovered-is : uncoveredNow w fell n ≡ toldReport w fell n .uncovered
+  unfolding toldReport
+  uncovered-is = ap (λ (k : ℕ → Bool). runsAfter sameUncovered [] (uncoveredTold k (sitesOf w) 0 (w .functions))) after-is
+
+  pub figures-told : (g : Figures) → g .after ≡ toldReport w fell n .sentencesAfter → g .removed ≡ length (firsts sameFallen (fallenFrom w fell 1 n)) → g .undecided ≡ length (undecidedNow w fell n) → g .uncovered ≡ length (uncoveredNow w fell n)
+      → g .«removed_length» ≡ length (flatMap removedLine (removedNow w fell n)) → g .«undecided_length» ≡ length (flatMap undecidedLine (undecidedNow w fell n)) → g .«uncovered_length» ≡ length (flatMap uncoveredLine (uncoveredNow w fell n)) → FiguresOf (toldReport w fell n) g
   figures-told g a b c d e h k = record {
     after = a;
-    removed = b ∙ (sym (length-map (firsts sameFallen (fallenFrom w fell 1 n)) (removedOf w fell)) ∙ ap length removed-is);
+    removed = b ∙ (sym (length-map (firsts sameFallen (fallenFrom w fell 1 n)) (removedOf w fell)) ∙ ap length (removed-is w fell n));
     undecided = c ∙ ap length undecided-is;
     uncovered = d ∙ ap length uncovered-is;
-    removed-length = e ∙ ap (λ (l : List RemovedSentence). length (flatMap removedLine l)) removed-is;
+    removed-length = e ∙ ap (λ (l : List RemovedSentence). length (flatMap removedLine l)) (removed-is w fell n);
     undecided-length = h ∙ ap (λ (l : List UndecidedSentence). length (flatMap undecidedLine l)) undecided-is;
     uncovered-length = k ∙ ap (λ (l : List UncoveredRestriction). length (flatMap uncoveredLine l)) uncovered-is;
   }
 
   pub lists-told : (g : Figures) → FiguresOf (toldReport w fell n) g
-      → flatMap removedLine removedNow ++ (countLine (ascii "undecided: ") (g .undecided) ++ (flatMap undecidedLine undecidedNow ++ (countLine (ascii "uncovered: ") (g .uncovered) ++ flatMap uncoveredLine uncoveredNow))) ≡ listsText (toldReport w fell n)
+      → flatMap removedLine (removedNow w fell n) ++ (countLine (ascii "undecided: ") (g .undecided) ++ (flatMap undecidedLine (undecidedNow w fell n) ++ (countLine (ascii "uncovered: ") (g .uncovered) ++ flatMap uncoveredLine (uncoveredNow w fell n)))) ≡ listsText (toldReport w fell n)
   unfolding listsText
   lists-told g f =
-      λ i. flatMap removedLine (removed-is i) ++ (countLine (ascii "undecided: ") (f .undecided i) ++ (flatMap undecidedLine (undecided-is i) ++ (countLine (ascii "uncovered: ") (f .uncovered i) ++ flatMap uncoveredLine (uncovered-is i))))
+      λ i. flatMap removedLine (removed-is w fell n i) ++ (countLine (ascii "undecided: ") (f .undecided i) ++ (flatMap undecidedLine (undecided-is i) ++ (countLine (ascii "uncovered: ") (f .uncovered i) ++ flatMap uncoveredLine (uncovered-is i))))
 
 -- Where nothing can be written, a text's length is all that emission takes of it.
 unwritten : (s : List ℕ) (p n : ℕ) (t : Text) → length s ≡ 0 → n ≡ length t → Emitted s p t (p + n) s

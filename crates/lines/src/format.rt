@@ -115,8 +115,8 @@ pub fn count_lists(
     ensures keeps { λ _. ⌜ Used (now (b .entry)) plan (now (work .entry)) (now (work .exit)) ⌝ }
 {
     let removed = put_removed(b, work, plan, rounds, none, 0);
-    let undecided = put_undecided(b, work, plan, rounds + 1, none, 0);
-    let uncovered = put_uncovered(b, work, plan, rounds + 1, none, 0);
+    let undecided = put_undecided(b, work, plan, none, 0);
+    let uncovered = put_uncovered(b, work, plan, none, 0);
     Figures {
         after: after,
         removed: removed.count,
@@ -145,9 +145,9 @@ fn put_lists(
 {
     let removed = put_removed(b, work, plan, rounds, out, at);
     let second = put_count_line(out, removed.at, b"undecided: ", figures.undecided);
-    let undecided = put_undecided(b, work, plan, rounds + 1, out, second);
+    let undecided = put_undecided(b, work, plan, out, second);
     let third = put_count_line(out, undecided.at, b"uncovered: ", figures.uncovered);
-    let uncovered = put_uncovered(b, work, plan, rounds + 1, out, third);
+    let uncovered = put_uncovered(b, work, plan, out, third);
     uncovered.at
 }
 

@@ -8,3 +8,6 @@ pub mod repeated;
 pub mod sentence;
 pub mod uncovered;
 pub mod undecided;
+
+// A round after all: what is there then never fell.
+const AFTER_ALL: usize = 4096;

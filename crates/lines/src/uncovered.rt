@@ -1,4 +1,5 @@
 // The uncovered restrictions: those that are Disjoint from every sentence of their function.
+use crate::AFTER_ALL;
 use crate::alike::same_function;
 use crate::leading::leads;
 use crate::sentence::put_name;
@@ -35,10 +36,11 @@ ghost use Rattle.index.specs.Tables.{sentencesBefore};
 ghost use Rattle.cleaning.specs.Asked.{isJudged};
 ghost use Rattle.cleaning.specs.Cleaning.{isDisjoint};
 ghost use Rattle.cleaning.specs.CleanReport.{sameUncovered};
-ghost use Rattle.cleaning.specs.History.{isThere};
+ghost use Rattle.cleaning.specs.History.{isThere, afterAll};
 ghost use Rattle.cleaning.specs.Indexed.{sitesOf, fellOf};
 ghost use Rattle.cleaning.specs.Room.{Remembering, Used};
 ghost use Rattle.cleaning.specs.Text.{formatTerms};
+ghost use Rattle.cleaning.specs.Walks.{Owns};
 ghost use Rattle.cleaning.specs.ToldReport.{uncoveredIn, judgedOnly, uncoveredTold, runsAfter};
 ghost use Rattle.report.specs.Fill.{Emitted, limit};
 ghost use Rattle.report.specs.Report.{uncoveredLine};
@@ -55,29 +57,38 @@ fn argument_of(b: &[u8], work: &[u32], plan: Plan, i: usize) -> usize
     site_argument(b, work[k])
 }
 
-// Whether the sentence s is there when the round begins, and not Disjoint from the argument of the plain site i.
-fn covers(b: &[u8], work: &mut [u32], plan: Plan, s: usize, i: usize, round: usize) -> bool
+// Whether the sentence s is left, and not Disjoint from the argument of the plain site i, which is left too. The witness
+// tells it of the sites up to its own; the others are asked.
+fn covers(b: &[u8], work: &mut [u32], plan: Plan, s: usize, i: usize) -> bool
     requires { ⌜ SomeSite (now b) (now work) plan i × (s < plan .sentences) × Remembering (now b) plan (now work) ⌝ }
-    ensures answers { λ r. ⌜ ((w : Program) (f : ℕ) (x : Function) (y : Held) (z : Sentence) → Readable (now (b .entry)) w (now (work .entry)) plan → getElem? (w .functions) f ≡ some x → getElem? (sitesOf w) i ≡ some y → isListed true (x .name) y ≡ true → getElem? (ownSentences (w .functions)) s ≡ some z → r ≡ (isThere (fellOf plan (now (work .entry))) round s && not (isDisjoint (patternsOverlap (z .pattern) (y .site .argument))))) ⌝ }
+    ensures answers { λ r. ⌜ ((w : Program) (f : ℕ) (x : Function) (y : Held) (z : Sentence) → Readable (now (b .entry)) w (now (work .entry)) plan → Owns w f x s z → getElem? (sitesOf w) i ≡ some y → isListed true (x .name) y ≡ true → isThere (fellOf plan (now (work .entry))) afterAll (y .sentence) ≡ true → r ≡ (isThere (fellOf plan (now (work .entry))) afterAll s && not (isDisjoint (patternsOverlap (z .pattern) (y .site .argument))))) ⌝ }
     ensures keeps { λ _. ⌜ Used (now (b .entry)) plan (now (work .entry)) (now (work .exit)) ⌝ }
 {
-    if !is_there(work, plan, s, round) {
+    if !is_there(work, plan, s, AFTER_ALL) {
         return false;
+    }
+    let k = 2 * plan.functions + plan.sentences + s;
+    let witness = work[k] as usize;
+    if i + 1 < witness {
+        return false;
+    }
+    if i + 1 == witness {
+        return true;
     }
     let pattern = place_of(work, 2 * plan.functions + s) + 9;
     !is_disjoint(verdict_at(b, work, plan, pattern, i))
 }
 
 // Whether some sentence of the f-th function covers the argument of the plain site i.
-fn is_covered(b: &[u8], work: &mut [u32], plan: Plan, f: usize, i: usize, round: usize) -> bool
+fn is_covered(b: &[u8], work: &mut [u32], plan: Plan, f: usize, i: usize) -> bool
     requires { ⌜ SomeSite (now b) (now work) plan i × (f < plan .functions) × Remembering (now b) plan (now work) ⌝ }
-    ensures answers { λ r. ⌜ ((w : Program) (x : Function) (y : Held) → Readable (now (b .entry)) w (now (work .entry)) plan → getElem? (w .functions) f ≡ some x → getElem? (sitesOf w) i ≡ some y → isListed true (x .name) y ≡ true → isUncovered (isThere (fellOf plan (now (work .entry))) round) x (sentencesBefore f (w .functions)) (y .site .argument) ≡ not r) ⌝ }
+    ensures answers { λ r. ⌜ ((w : Program) (x : Function) (y : Held) → Readable (now (b .entry)) w (now (work .entry)) plan → getElem? (w .functions) f ≡ some x → getElem? (sitesOf w) i ≡ some y → isListed true (x .name) y ≡ true → isThere (fellOf plan (now (work .entry))) afterAll (y .sentence) ≡ true → isUncovered (isThere (fellOf plan (now (work .entry))) afterAll) x (sentencesBefore f (w .functions)) (y .site .argument) ≡ not r) ⌝ }
     ensures keeps { λ _. ⌜ Used (now (b .entry)) plan (now (work .entry)) (now (work .exit)) ⌝ }
 {
     let end = first_sentence(work, plan, f + 1);
     let mut s = first_sentence(work, plan, f);
     while s < end {
-        if covers(b, work, plan, s, i, round) {
+        if covers(b, work, plan, s, i) {
             return true;
         }
         s += 1;
@@ -162,26 +173,25 @@ fn put_candidate(
     }
 }
 
-// Tells the plain site i of the f-th function, if it leads and is uncovered when the round begins.
+// Tells the plain site i of the f-th function, if it leads and is uncovered.
 fn put_if_uncovered(
     b: &[u8],
     work: &mut [u32],
     plan: Plan,
     f: usize,
     i: usize,
-    round: usize,
     out: &mut [u8],
     listed: Listed,
 ) -> Listed
     requires { ⌜ SomeSite (now b) (now work) plan i × (f < plan .functions) × (listed .function ≤ f) × ((w : Program) → Readable (now b) w (now work) plan → PlainAt w (listed .function) (listed .item)) × (listed .at + 80000 ≤ limit) × (listed .count ≤ listed .at) × Remembering (now b) plan (now work) ⌝ }
-    ensures told { λ r. ⌜ ((w : Program) (x : Function) (y : Held) → Readable (now (b .entry)) w (now (work .entry)) plan → getElem? (w .functions) f ≡ some x → getElem? (sitesOf w) i ≡ some y → isListed true (x .name) y ≡ true → Uncovered w (uncoveredAt (isThere (fellOf plan (now (work .entry))) round) (sitesOf w) x (sentencesBefore f (w .functions)) i y) (now (out .entry)) (listed .at) (listed .count) (listed .function) (listed .item) (now (out .exit)) (r .at) (r .count) (r .function) (r .item)) ⌝ }
+    ensures told { λ r. ⌜ ((w : Program) (x : Function) (y : Held) → Readable (now (b .entry)) w (now (work .entry)) plan → getElem? (w .functions) f ≡ some x → getElem? (sitesOf w) i ≡ some y → isListed true (x .name) y ≡ true → Uncovered w (uncoveredAt (isThere (fellOf plan (now (work .entry))) afterAll) (sitesOf w) x (sentencesBefore f (w .functions)) i y) (now (out .entry)) (listed .at) (listed .count) (listed .function) (listed .item) (now (out .exit)) (r .at) (r .count) (r .function) (r .item)) ⌝ }
     ensures short { λ r. ⌜ (r .at ≤ listed .at + 80000) × (r .count ≤ r .at) × (r .function ≤ f) ⌝ }
     ensures keeps { λ _. ⌜ Used (now (b .entry)) plan (now (work .entry)) (now (work .exit)) ⌝ }
 {
-    if !leads(work, plan, i, round) {
+    if !leads(work, plan, i, AFTER_ALL) {
         return listed;
     }
-    if is_covered(b, work, plan, f, i, round) {
+    if is_covered(b, work, plan, f, i) {
         return listed;
     }
     put_candidate(b, work, plan, f, i, out, listed)
@@ -193,12 +203,11 @@ fn put_uncovered_in(
     work: &mut [u32],
     plan: Plan,
     f: usize,
-    round: usize,
     out: &mut [u8],
     listed: Listed,
 ) -> Listed
     requires { ⌜ SomeReadable (now b) (now work) plan × (f < plan .functions) × (listed .function ≤ f) × ((w : Program) → Readable (now b) w (now work) plan → PlainAt w (listed .function) (listed .item)) × (listed .at + 8192 * 80000 ≤ limit) × (listed .count ≤ listed .at) × Remembering (now b) plan (now work) ⌝ }
-    ensures told { λ r. ⌜ ((w : Program) (x : Function) → Readable (now (b .entry)) w (now (work .entry)) plan → getElem? (w .functions) f ≡ some x → Uncovered w (uncoveredIn (isThere (fellOf plan (now (work .entry))) round) (sitesOf w) (sentencesBefore f (w .functions)) x) (now (out .entry)) (listed .at) (listed .count) (listed .function) (listed .item) (now (out .exit)) (r .at) (r .count) (r .function) (r .item)) ⌝ }
+    ensures told { λ r. ⌜ ((w : Program) (x : Function) → Readable (now (b .entry)) w (now (work .entry)) plan → getElem? (w .functions) f ≡ some x → Uncovered w (uncoveredIn (isThere (fellOf plan (now (work .entry))) afterAll) (sitesOf w) (sentencesBefore f (w .functions)) x) (now (out .entry)) (listed .at) (listed .count) (listed .function) (listed .item) (now (out .exit)) (r .at) (r .count) (r .function) (r .item)) ⌝ }
     ensures short { λ r. ⌜ (r .at ≤ listed .at + 8192 * 80000) × (r .count ≤ r .at) × (r .function ≤ f) ⌝ }
     ensures keeps { λ _. ⌜ Used (now (b .entry)) plan (now (work .entry)) (now (work .exit)) ⌝ }
 {
@@ -206,46 +215,38 @@ fn put_uncovered_in(
     let mut i = head_site(work, plan.functions, f, true);
     let mut last = listed;
     while i < plan.sites {
-        last = put_if_uncovered(b, work, plan, f, i, round, out, last);
+        last = put_if_uncovered(b, work, plan, f, i, out, last);
         i = next_site(work, links, i);
     }
     last
 }
 
-// The same, if the round judges the f-th function: the others give nothing.
+// The same, if a round would judge the f-th function: the others give nothing.
 fn put_if_judged(
     b: &[u8],
     work: &mut [u32],
     plan: Plan,
     f: usize,
-    round: usize,
     out: &mut [u8],
     listed: Listed,
 ) -> Listed
     requires { ⌜ SomeReadable (now b) (now work) plan × (f < plan .functions) × (listed .function ≤ f) × ((w : Program) → Readable (now b) w (now work) plan → PlainAt w (listed .function) (listed .item)) × (listed .at + 8192 * 80000 ≤ limit) × (listed .count ≤ listed .at) × Remembering (now b) plan (now work) ⌝ }
-    ensures told { λ r. ⌜ ((w : Program) (x : Function) → Readable (now (b .entry)) w (now (work .entry)) plan → getElem? (w .functions) f ≡ some x → Uncovered w (judgedOnly (isJudged (isThere (fellOf plan (now (work .entry))) round) (x .name) (sitesOf w)) (uncoveredIn (isThere (fellOf plan (now (work .entry))) round) (sitesOf w) (sentencesBefore f (w .functions)) x)) (now (out .entry)) (listed .at) (listed .count) (listed .function) (listed .item) (now (out .exit)) (r .at) (r .count) (r .function) (r .item)) ⌝ }
+    ensures told { λ r. ⌜ ((w : Program) (x : Function) → Readable (now (b .entry)) w (now (work .entry)) plan → getElem? (w .functions) f ≡ some x → Uncovered w (judgedOnly (isJudged (isThere (fellOf plan (now (work .entry))) afterAll) (x .name) (sitesOf w)) (uncoveredIn (isThere (fellOf plan (now (work .entry))) afterAll) (sitesOf w) (sentencesBefore f (w .functions)) x)) (now (out .entry)) (listed .at) (listed .count) (listed .function) (listed .item) (now (out .exit)) (r .at) (r .count) (r .function) (r .item)) ⌝ }
     ensures short { λ r. ⌜ (r .at ≤ listed .at + 8192 * 80000) × (r .count ≤ r .at) × (r .function ≤ f) ⌝ }
     ensures keeps { λ _. ⌜ Used (now (b .entry)) plan (now (work .entry)) (now (work .exit)) ⌝ }
 {
-    if !is_judged(work, plan, f, round) {
+    if !is_judged(work, plan, f, AFTER_ALL) {
         return listed;
     }
-    put_uncovered_in(b, work, plan, f, round, out, listed)
+    put_uncovered_in(b, work, plan, f, out, listed)
 }
 
 // Every uncovered restriction as a line, neighbouring repeats left out. Functions of one name share their sites, so
 // there may be a line for each function and site.
-pub fn put_uncovered(
-    b: &[u8],
-    work: &mut [u32],
-    plan: Plan,
-    round: usize,
-    out: &mut [u8],
-    at: usize,
-) -> Listed
+pub fn put_uncovered(b: &[u8], work: &mut [u32], plan: Plan, out: &mut [u8], at: usize) -> Listed
     requires { ⌜ SomeReadable (now b) (now work) plan × (at + 8192 * (8192 * 80000) ≤ limit) × Remembering (now b) plan (now work) ⌝ }
-    ensures told { λ r. ⌜ ((w : Program) → Readable (now (b .entry)) w (now (work .entry)) plan → Emitted (now (out .entry)) at (flatMap uncoveredLine (runsAfter sameUncovered [] (uncoveredTold (isThere (fellOf plan (now (work .entry))) round) (sitesOf w) 0 (w .functions)))) (r .at) (now (out .exit))) ⌝ }
-    ensures counted { λ r. ⌜ ((w : Program) → Readable (now (b .entry)) w (now (work .entry)) plan → r .count ≡ length (runsAfter sameUncovered [] (uncoveredTold (isThere (fellOf plan (now (work .entry))) round) (sitesOf w) 0 (w .functions)))) ⌝ }
+    ensures told { λ r. ⌜ ((w : Program) → Readable (now (b .entry)) w (now (work .entry)) plan → Emitted (now (out .entry)) at (flatMap uncoveredLine (runsAfter sameUncovered [] (uncoveredTold (isThere (fellOf plan (now (work .entry))) afterAll) (sitesOf w) 0 (w .functions)))) (r .at) (now (out .exit))) ⌝ }
+    ensures counted { λ r. ⌜ ((w : Program) → Readable (now (b .entry)) w (now (work .entry)) plan → r .count ≡ length (runsAfter sameUncovered [] (uncoveredTold (isThere (fellOf plan (now (work .entry))) afterAll) (sitesOf w) 0 (w .functions)))) ⌝ }
     ensures short { λ r. ⌜ r .at ≤ at + 8192 * (8192 * 80000) ⌝ }
     ensures keeps { λ _. ⌜ Used (now (b .entry)) plan (now (work .entry)) (now (work .exit)) ⌝ }
 {
@@ -257,7 +258,7 @@ pub fn put_uncovered(
     };
     let mut f: usize = 0;
     while f < plan.functions {
-        last = put_if_judged(b, work, plan, f, round, out, last);
+        last = put_if_judged(b, work, plan, f, out, last);
         f += 1;
     }
     last

@@ -1,4 +1,5 @@
 // The undecided sentences: those that no restriction gives Overlap.
+use crate::AFTER_ALL;
 use crate::alike::same_function;
 use crate::alike::same_pattern;
 use crate::sentence::put_sentence;
@@ -8,8 +9,8 @@ use cleaning::walks::calls_of;
 use cleaning::walks::is_judged;
 use cleaning::walks::is_there;
 use cleaning::walks::site_there;
+use cleaning::walks::witness_of;
 use index::Plan;
-use index::table::head_site;
 use index::table::next_site;
 use index::table::place_of;
 use overlap::is_overlap;
@@ -29,14 +30,14 @@ ghost use Rattle.index.specs.Calls.{isListed};
 ghost use Rattle.index.specs.Tables.{sentencesBefore};
 ghost use Rattle.cleaning.specs.Asked.{isJudged};
 ghost use Rattle.cleaning.specs.CleanReport.{sameUndecided};
-ghost use Rattle.cleaning.specs.History.{isThere};
+ghost use Rattle.cleaning.specs.History.{isThere, afterAll};
 ghost use Rattle.cleaning.specs.Indexed.{sitesOf, Indexed, fellOf};
 ghost use Rattle.cleaning.specs.Room.{Remembering, Used};
 ghost use Rattle.cleaning.specs.ToldReport.{overlaps, undecidedIn, judgedOnly, undecidedTold, runsAfter};
-ghost use Rattle.cleaning.specs.Walks.{SomeAsked};
+ghost use Rattle.cleaning.specs.Walks.{SomeAsked, Owns};
 ghost use Rattle.report.specs.Fill.{Emitted, limit};
 ghost use Rattle.report.specs.Report.{undecidedLine};
-ghost use Rattle.lines.specs.Emitting.{Readable, SomeReadable};
+ghost use Rattle.lines.specs.Emitting.{Readable, SomeReadable, SomeSentence};
 ghost use Rattle.lines.specs.Undecided.{undecidedOne, lastUndecided, undecidedAt, Undecided};
 
 // The place after the lines so far, how many they are, and the last candidate: its function, and which of the
@@ -67,17 +68,17 @@ fn overlaps_at(
     is_overlap(verdict_at(b, work, plan, pattern, i))
 }
 
-// Whether a restriction of the f-th function gives its sentence s Overlap when the round begins.
-fn is_decided(b: &[u8], work: &mut [u32], plan: Plan, f: usize, s: usize, round: usize) -> bool
-    requires { ⌜ SomeReadable (now b) (now work) plan × (f < plan .functions) × (s < plan .sentences) × Remembering (now b) plan (now work) ⌝ }
-    ensures answers { λ r. ⌜ ((w : Program) (x : Function) (y : Sentence) → Readable (now (b .entry)) w (now (work .entry)) plan → getElem? (w .functions) f ≡ some x → getElem? (ownSentences (w .functions)) s ≡ some y → r ≡ any (overlaps (isThere (fellOf plan (now (work .entry))) round) (x .name) (y .pattern)) (sitesOf w)) ⌝ }
+// Whether a restriction of the f-th function gives its sentence s Overlap in the end. The sites before its witness give Disjoint.
+fn is_decided(b: &[u8], work: &mut [u32], plan: Plan, f: usize, s: usize) -> bool
+    requires { ⌜ SomeSentence (now b) (now work) plan f s × Remembering (now b) plan (now work) ⌝ }
+    ensures answers { λ r. ⌜ ((w : Program) (x : Function) (y : Sentence) → Readable (now (b .entry)) w (now (work .entry)) plan → Owns w f x s y → r ≡ any (overlaps (isThere (fellOf plan (now (work .entry))) afterAll) (x .name) (y .pattern)) (sitesOf w)) ⌝ }
     ensures keeps { λ _. ⌜ Used (now (b .entry)) plan (now (work .entry)) (now (work .exit)) ⌝ }
 {
     let pattern = place_of(work, 2 * plan.functions + s) + 9;
     let links = calls_of(plan) + plan.sites;
-    let mut i = head_site(work, plan.functions, f, true);
+    let mut i = witness_of(work, plan, f, s);
     while i < plan.sites {
-        if overlaps_at(b, work, plan, pattern, i, round) {
+        if overlaps_at(b, work, plan, pattern, i, AFTER_ALL) {
             return true;
         }
         i = next_site(work, links, i);
@@ -131,26 +132,25 @@ fn put_candidate(
     }
 }
 
-// Tells the sentence s of the f-th function, if it is there and undecided when the round begins.
+// Tells the sentence s of the f-th function, if it is left and undecided.
 fn put_if_undecided(
     b: &[u8],
     work: &mut [u32],
     plan: Plan,
     f: usize,
     s: usize,
-    round: usize,
     out: &mut [u8],
     listed: Listed,
 ) -> Listed
-    requires { ⌜ SomeReadable (now b) (now work) plan × (f < plan .functions) × (s < plan .sentences) × (listed .function ≤ f) × (listed .at + 80000 ≤ limit) × (listed .count ≤ listed .at) × Remembering (now b) plan (now work) ⌝ }
-    ensures told { λ r. ⌜ ((w : Program) (x : Function) (y : Sentence) → Readable (now (b .entry)) w (now (work .entry)) plan → getElem? (w .functions) f ≡ some x → getElem? (ownSentences (w .functions)) s ≡ some y → Undecided w (undecidedAt (isThere (fellOf plan (now (work .entry))) round) (sitesOf w) x s y) (now (out .entry)) (listed .at) (listed .count) (listed .function) (listed .item) (now (out .exit)) (r .at) (r .count) (r .function) (r .item)) ⌝ }
+    requires { ⌜ SomeSentence (now b) (now work) plan f s × (listed .function ≤ f) × (listed .at + 80000 ≤ limit) × (listed .count ≤ listed .at) × Remembering (now b) plan (now work) ⌝ }
+    ensures told { λ r. ⌜ ((w : Program) (x : Function) (y : Sentence) → Readable (now (b .entry)) w (now (work .entry)) plan → Owns w f x s y → Undecided w (undecidedAt (isThere (fellOf plan (now (work .entry))) afterAll) (sitesOf w) x s y) (now (out .entry)) (listed .at) (listed .count) (listed .function) (listed .item) (now (out .exit)) (r .at) (r .count) (r .function) (r .item)) ⌝ }
     ensures short { λ r. ⌜ (r .at ≤ listed .at + 80000) × (r .count ≤ r .at) × (r .function ≤ f) ⌝ }
     ensures keeps { λ _. ⌜ Used (now (b .entry)) plan (now (work .entry)) (now (work .exit)) ⌝ }
 {
-    if !is_there(work, plan, s, round) {
+    if !is_there(work, plan, s, AFTER_ALL) {
         return listed;
     }
-    if is_decided(b, work, plan, f, s, round) {
+    if is_decided(b, work, plan, f, s) {
         return listed;
     }
     put_candidate(b, work, plan, f, s, out, listed)
@@ -162,12 +162,11 @@ fn put_undecided_in(
     work: &mut [u32],
     plan: Plan,
     f: usize,
-    round: usize,
     out: &mut [u8],
     listed: Listed,
 ) -> Listed
     requires { ⌜ SomeReadable (now b) (now work) plan × (f < plan .functions) × (listed .function ≤ f) × ((w : Program) → Readable (now b) w (now work) plan → listed .at + 80000 * sentencesBefore (suc f) (w .functions) ≤ limit + 80000 * sentencesBefore f (w .functions)) × (listed .count ≤ listed .at) × Remembering (now b) plan (now work) ⌝ }
-    ensures told { λ r. ⌜ ((w : Program) (x : Function) → Readable (now (b .entry)) w (now (work .entry)) plan → getElem? (w .functions) f ≡ some x → Undecided w (undecidedIn (isThere (fellOf plan (now (work .entry))) round) (sitesOf w) (sentencesBefore f (w .functions)) x) (now (out .entry)) (listed .at) (listed .count) (listed .function) (listed .item) (now (out .exit)) (r .at) (r .count) (r .function) (r .item)) ⌝ }
+    ensures told { λ r. ⌜ ((w : Program) (x : Function) → Readable (now (b .entry)) w (now (work .entry)) plan → getElem? (w .functions) f ≡ some x → Undecided w (undecidedIn (isThere (fellOf plan (now (work .entry))) afterAll) (sitesOf w) (sentencesBefore f (w .functions)) x) (now (out .entry)) (listed .at) (listed .count) (listed .function) (listed .item) (now (out .exit)) (r .at) (r .count) (r .function) (r .item)) ⌝ }
     ensures short { λ r. ⌜ ((w : Program) → Readable (now (b .entry)) w (now (work .entry)) plan → r .at + 80000 * sentencesBefore f (w .functions) ≤ listed .at + 80000 * sentencesBefore (suc f) (w .functions)) × (r .count ≤ r .at) × (r .function ≤ f) ⌝ }
     ensures keeps { λ _. ⌜ Used (now (b .entry)) plan (now (work .entry)) (now (work .exit)) ⌝ }
 {
@@ -175,45 +174,37 @@ fn put_undecided_in(
     let mut s = first_sentence(work, plan, f);
     let mut last = listed;
     while s < end {
-        last = put_if_undecided(b, work, plan, f, s, round, out, last);
+        last = put_if_undecided(b, work, plan, f, s, out, last);
         s += 1;
     }
     last
 }
 
-// The same, if the round judges the f-th function: the others give nothing.
+// The same, if a round would judge the f-th function: the others give nothing.
 fn put_if_judged(
     b: &[u8],
     work: &mut [u32],
     plan: Plan,
     f: usize,
-    round: usize,
     out: &mut [u8],
     listed: Listed,
 ) -> Listed
     requires { ⌜ SomeReadable (now b) (now work) plan × (f < plan .functions) × (listed .function ≤ f) × ((w : Program) → Readable (now b) w (now work) plan → listed .at + 80000 * sentencesBefore (suc f) (w .functions) ≤ limit + 80000 * sentencesBefore f (w .functions)) × (listed .count ≤ listed .at) × Remembering (now b) plan (now work) ⌝ }
-    ensures told { λ r. ⌜ ((w : Program) (x : Function) → Readable (now (b .entry)) w (now (work .entry)) plan → getElem? (w .functions) f ≡ some x → Undecided w (judgedOnly (isJudged (isThere (fellOf plan (now (work .entry))) round) (x .name) (sitesOf w)) (undecidedIn (isThere (fellOf plan (now (work .entry))) round) (sitesOf w) (sentencesBefore f (w .functions)) x)) (now (out .entry)) (listed .at) (listed .count) (listed .function) (listed .item) (now (out .exit)) (r .at) (r .count) (r .function) (r .item)) ⌝ }
+    ensures told { λ r. ⌜ ((w : Program) (x : Function) → Readable (now (b .entry)) w (now (work .entry)) plan → getElem? (w .functions) f ≡ some x → Undecided w (judgedOnly (isJudged (isThere (fellOf plan (now (work .entry))) afterAll) (x .name) (sitesOf w)) (undecidedIn (isThere (fellOf plan (now (work .entry))) afterAll) (sitesOf w) (sentencesBefore f (w .functions)) x)) (now (out .entry)) (listed .at) (listed .count) (listed .function) (listed .item) (now (out .exit)) (r .at) (r .count) (r .function) (r .item)) ⌝ }
     ensures short { λ r. ⌜ ((w : Program) → Readable (now (b .entry)) w (now (work .entry)) plan → r .at + 80000 * sentencesBefore f (w .functions) ≤ listed .at + 80000 * sentencesBefore (suc f) (w .functions)) × (r .count ≤ r .at) × (r .function ≤ f) ⌝ }
     ensures keeps { λ _. ⌜ Used (now (b .entry)) plan (now (work .entry)) (now (work .exit)) ⌝ }
 {
-    if !is_judged(work, plan, f, round) {
+    if !is_judged(work, plan, f, AFTER_ALL) {
         return listed;
     }
-    put_undecided_in(b, work, plan, f, round, out, listed)
+    put_undecided_in(b, work, plan, f, out, listed)
 }
 
 // Every undecided sentence as a line, neighbouring repeats left out.
-pub fn put_undecided(
-    b: &[u8],
-    work: &mut [u32],
-    plan: Plan,
-    round: usize,
-    out: &mut [u8],
-    at: usize,
-) -> Listed
+pub fn put_undecided(b: &[u8], work: &mut [u32], plan: Plan, out: &mut [u8], at: usize) -> Listed
     requires { ⌜ SomeReadable (now b) (now work) plan × (at + 8192 * 80000 ≤ limit) × Remembering (now b) plan (now work) ⌝ }
-    ensures told { λ r. ⌜ ((w : Program) → Readable (now (b .entry)) w (now (work .entry)) plan → Emitted (now (out .entry)) at (flatMap undecidedLine (runsAfter sameUndecided [] (undecidedTold (isThere (fellOf plan (now (work .entry))) round) (sitesOf w) 0 (w .functions)))) (r .at) (now (out .exit))) ⌝ }
-    ensures counted { λ r. ⌜ ((w : Program) → Readable (now (b .entry)) w (now (work .entry)) plan → r .count ≡ length (runsAfter sameUndecided [] (undecidedTold (isThere (fellOf plan (now (work .entry))) round) (sitesOf w) 0 (w .functions)))) ⌝ }
+    ensures told { λ r. ⌜ ((w : Program) → Readable (now (b .entry)) w (now (work .entry)) plan → Emitted (now (out .entry)) at (flatMap undecidedLine (runsAfter sameUndecided [] (undecidedTold (isThere (fellOf plan (now (work .entry))) afterAll) (sitesOf w) 0 (w .functions)))) (r .at) (now (out .exit))) ⌝ }
+    ensures counted { λ r. ⌜ ((w : Program) → Readable (now (b .entry)) w (now (work .entry)) plan → r .count ≡ length (runsAfter sameUndecided [] (undecidedTold (isThere (fellOf plan (now (work .entry))) afterAll) (sitesOf w) 0 (w .functions)))) ⌝ }
     ensures short { λ r. ⌜ r .at ≤ at + 8192 * 80000 ⌝ }
     ensures keeps { λ _. ⌜ Used (now (b .entry)) plan (now (work .entry)) (now (work .exit)) ⌝ }
 {
@@ -225,7 +216,7 @@ pub fn put_undecided(
     };
     let mut f: usize = 0;
     while f < plan.functions {
-        last = put_if_judged(b, work, plan, f, round, out, last);
+        last = put_if_judged(b, work, plan, f, out, last);
         f += 1;
     }
     last

@@ -21,14 +21,8 @@ use Rattle.lines.proofs.format.count_lists.Tie as tie
 put-removed-requires : tie.Need-put-removed-requires
 put-removed-requires c κs = search needs
 
-add-put-undecided : tie.Need-add-put-undecided
-add-put-undecided c = search needs
-
 put-undecided-requires : tie.Need-put-undecided-requires
 put-undecided-requires c κs = search needs
-
-add-put-uncovered : tie.Need-add-put-uncovered
-add-put-uncovered c = omega (arith, c .before .before .before .before .before .before .before .before .before .before .before .before .before .before .before .before .pre .1)
 
 put-uncovered-requires : tie.Need-put-uncovered-requires
 put-uncovered-requires c κs =
@@ -66,7 +60,7 @@ returns c =
     let uncovered = c .before .before .before .before .put-uncovered .ensures in
     let u = undecided .1 .1 .1 in (
       λ w x e. (
-        figures-told w fell (a .rounds) _ e (removed .1 .0 w x) (undecided .1 .0 w (x .readable)) (uncovered-is (c .before .before .before .before) w x) (omega (arith, removed .0 w x .after)) (omega (arith, undecided .0 w (x .readable) .after)) (omega (arith, uncovered-put (c .before .before .before .before) w x)),
+        figures-told w fell (a .rounds) (x .below) ((c .before .before .before .before .before .before .before .before .before .before .before .before .before .before .before .before .before .before .before .before .before .before) .pre .1) _ e (removed .1 .0 w x) (undecided .1 .0 w (x .readable)) (uncovered-is (c .before .before .before .before) w x) (omega (arith, removed .0 w x .after)) (omega (arith, undecided .0 w (x .readable) .after)) (omega (arith, uncovered-put (c .before .before .before .before) w x)),
         emitted-length (uncovered .0 w (used-readable u (x .readable))) ∙ (emitted-length (undecided .0 w (x .readable)) ∙ emitted-length (removed .0 w x)),
       ),
       (
@@ -88,9 +82,7 @@ count-lists-spec =
     tie.close
     (tie.spec
     put-removed-requires
-    add-put-undecided
     put-undecided-requires
-    add-put-uncovered
     put-uncovered-requires
     same-length
     same-length-2

@@ -24,9 +24,6 @@ slice-aggregate-put-count-line c = search needs
 put-count-line-requires : tie.Need-put-count-line-requires
 put-count-line-requires c κs = search needs
 
-add-put-undecided : tie.Need-add-put-undecided
-add-put-undecided c = search needs
-
 put-undecided-requires : tie.Need-put-undecided-requires
 put-undecided-requires c κs = search needs
 
@@ -37,9 +34,6 @@ put-count-line-requires-2 : tie.Need-put-count-line-requires-2
 put-count-line-requires-2 c κs =
     let s = (c .before .before .before .before .before .before .before .before .before .before .before .before .before .before .before .before .before .before .before .before .before .before) in
     (s .pre .0 .few .uncovered, omega (arith, c .before .before .before .before .before .before .put-undecided .ensures .1 .1 .0, c .before .before .before .before .before .before .before .before .before .before .before .put-count-line .ensures .1, c .before .before .before .before .before .before .before .before .before .before .before .before .before .before .before .before .put-removed .ensures .1 .1, s .pre .2))
-
-add-put-uncovered : tie.Need-add-put-uncovered
-add-put-uncovered c = omega (arith, c .before .before .before .before .before .before .before .before .before .before .before .before .before .before .before .before .before .before .before .before .before .before .before .before .before .before .pre .1)
 
 put-uncovered-requires : tie.Need-put-uncovered-requires
 put-uncovered-requires c κs =
@@ -74,7 +68,7 @@ returns c =
     let used = undecided .1 .1 .1 in (
       λ w x.
           let d = x .removing in
-          emitted-same (lists-told w fell n (a .figures) (x .figures))
+          emitted-same (lists-told w fell n (d .below) ((c .before .before .before .before .before .before .before .before .before .before .before .before .before .before .before .before .before .before .before .before .before .before .before .before .before .before .before .before .before .before .before .before) .pre .1) (a .figures) (x .figures))
           (emitted-append (flatMap removedLine (removedNow w fell n)) (u ++ (flatMap undecidedLine (undecidedNow w fell n) ++ (v ++ flatMap uncoveredLine (uncoveredNow w fell n)))) (c .before .before .before .before .before .before .before .before .before .before .before .before .before .before .before .before .before .before .before .before .before .before .before .before .before .before .put-removed .ensures .0 w d)
           (emitted-append u (flatMap undecidedLine (undecidedNow w fell n) ++ (v ++ flatMap uncoveredLine (uncoveredNow w fell n))) (c .before .before .before .before .before .before .before .before .before .before .before .before .before .before .before .before .before .before .before .before .before .put-count-line .ensures .0)
           (emitted-append (flatMap undecidedLine (undecidedNow w fell n)) (v ++ flatMap uncoveredLine (uncoveredNow w fell n)) (undecided .0 w (d .readable))
@@ -93,11 +87,9 @@ put-lists-spec =
     put-removed-requires
     slice-aggregate-put-count-line
     put-count-line-requires
-    add-put-undecided
     put-undecided-requires
     slice-aggregate-put-count-line-2
     put-count-line-requires-2
-    add-put-uncovered
     put-uncovered-requires
     same-length
     same-length-2

@@ -1,5 +1,5 @@
 -- `lines::uncovered::is_covered` meets its contract. Assumes nothing.
-use Prim.Native.Nat.{ℕ, suc, _+_, _-_, _<_}
+use Prim.Native.Nat.{ℕ, suc, _+_, _-_, _<_, _≤_}
 use native.Mathlib.Omega.{arith}
 use mathlib.Core.Path.{_≡_, sym, ap, _∙_}
 use mathlib.Core.Bool.{Bool, true, _&&_, not}
@@ -13,9 +13,10 @@ use Rattle.restrictions.proofs.Numbered.{own-counted}
 use Rattle.index.specs.Calls.{isListed}
 use Rattle.index.specs.Tables.{sentencesBefore}
 use Rattle.cleaning.specs.Cleaning.{isDisjoint}
-use Rattle.cleaning.specs.History.{isThere}
+use Rattle.cleaning.specs.History.{isThere, afterAll}
 use Rattle.cleaning.specs.Indexed.{sitesOf, fellOf, SomeBody}
 use Rattle.cleaning.specs.Room.{Used}
+use Rattle.cleaning.specs.Walks.{Owns}
 use Rattle.cleaning.proofs.Owned.{before-most}
 use Rattle.cleaning.proofs.Room.{used-same, used-then}
 use Rattle.lines.specs.Emitting.{Readable}
@@ -27,16 +28,16 @@ use Rattle.lines.proofs.uncovered.is_covered.Tie as tie
 
 -- No sentence before s covers the argument.
 abbrev Inv-loop : tie.InvT-loop
-Inv-loop b work₀ plan f i round end s₀ work s =
-    ((w : Program) (x : Function) (y : Held) → Readable b w work₀ plan → getElem? (w .functions) f ≡ some x → getElem? (sitesOf w) i ≡ some y → isListed true (x .name) y ≡ true
-    → Uncovering (isThere (fellOf plan work₀) round) w f (y .site .argument) s)
+Inv-loop b work₀ plan f i end s₀ work s =
+    ((w : Program) (x : Function) (y : Held) → Readable b w work₀ plan → getElem? (w .functions) f ≡ some x → getElem? (sitesOf w) i ≡ some y → isListed true (x .name) y ≡ true → isThere (fellOf plan work₀) afterAll (y .sentence) ≡ true
+    → Uncovering (isThere (fellOf plan work₀) afterAll) w f (y .site .argument) s)
     × Used b plan work₀ work
 
 abbrev μ-loop : tie.MeasureT-loop
-μ-loop b work₀ plan f i round end s₀ work s = end - s
+μ-loop b work₀ plan f i end s₀ work s = end - s
 
 abbrev keep : tie.Start Inv-loop μ-loop → ℕ → Bool
-keep s = isThere (fellOf (s .args .plan) (s .args .work .now)) (s .args .round)
+keep s = isThere (fellOf (s .args .plan) (s .args .work .now)) afterAll
 
 abbrev Given : tie.Start Inv-loop μ-loop → Program → Type 0
 Given s w = Readable (s .args .b .now) w (s .args .work .now) (s .args .plan)
@@ -55,13 +56,18 @@ sentence-below h l =
     let d = s .pre .0 .readable in
     omega (arith, end-is (h .before .before .before) w d, before-most (w .functions) (suc (s .args .f)), own-counted (w .functions), d .indexed .sentences)
 
+-- The sentence at the loop's head is one of the function's own.
+owned-at : (h : tie.At-loop Inv-loop μ-loop) → let s = h .before .before .before .before .before .before .before in h .loop .s < h .before .before .before .first-sentence .result → (w : Program) (x : Function) → Given s w → getElem? (w .functions) (s .args .f) ≡ some x
+    → (z : Sentence) → getElem? (ownSentences (w .functions)) (h .loop .s) ≡ some z → sentencesBefore (s .args .f) (w .functions) ≤ h .loop .s → Owns w (s .args .f) x (h .loop .s) z
+owned-at h t w x d e z g a = record { function = e; sentence = g; from = a; upto = omega (arith, t, end-is (h .before .before .before) w d) }
+
 -- What `covers` says of the sentence at the loop's head.
-asked : (c : tie.After-covers Inv-loop μ-loop) (w : Program) (x : Function) (y : Held) (z : Sentence) → let s = (c .before .before .before .before .before .before .before .before .before .before) in Given s w → getElem? (w .functions) (s .args .f) ≡ some x → getElem? (sitesOf w) (s .args .i) ≡ some y → isListed true (x .name) y ≡ true → getElem? (ownSentences (w .functions)) (c .before .before .before .loop .s) ≡ some z
+asked : (c : tie.After-covers Inv-loop μ-loop) (w : Program) (x : Function) (y : Held) (z : Sentence) → let s = (c .before .before .before .before .before .before .before .before .before .before) in Given s w → Owns w (s .args .f) x (c .before .before .before .loop .s) z → getElem? (sitesOf w) (s .args .i) ≡ some y → isListed true (x .name) y ≡ true → keep s (y .sentence) ≡ true
     → c .covers .result ≡ (keep s (c .before .before .before .loop .s) && not (isDisjoint (patternsOverlap (z .pattern) (y .site .argument))))
-asked c w x y z d e g l k =
+asked c w x y z d o g l k =
     let s = (c .before .before .before .before .before .before .before .before .before .before) in
     let u = c .before .before .before .loop .inv .1 in
-    c .covers .ensures .0 w (s .args .f) x y z (used-readable u d) e g l k ∙ ap (λ (t : ℕ → Bool). t (c .before .before .before .loop .s) && not (isDisjoint (patternsOverlap (z .pattern) (y .site .argument)))) (used-keep u (s .args .round))
+    c .covers .ensures .0 w (s .args .f) x y z (used-readable u d) o g l (ap (λ (t : ℕ → Bool). t (y .sentence)) (used-keep u afterAll) ∙ k) ∙ ap (λ (t : ℕ → Bool). t (c .before .before .before .loop .s) && not (isDisjoint (patternsOverlap (z .pattern) (y .site .argument)))) (used-keep u afterAll)
 
 add-first-sentence : tie.Need-add-first-sentence Inv-loop μ-loop
 add-first-sentence c = let d = c .before .before .before .pre .0 .readable .indexed in omega (arith, c .before .before .before .pre .1, d .fits, d .small)
@@ -75,7 +81,7 @@ first-sentence-requires-2 c κs = (body (c .before .before .before .before .befo
 loop-holds : tie.Need-loop-holds Inv-loop μ-loop
 loop-holds c =
     let s = (c .before .before .before .before .before .before) in
-    (λ w x y d e g l. covering-first (keep s) w (s .args .f) x e (y .site .argument) (c .first-sentence2 .result) (c .first-sentence2 .ensures (s .args .b .now) w (d .indexed)), used-same (s .pre .2))
+    (λ w x y d e g l k. covering-first (keep s) w (s .args .f) x e (y .site .argument) (c .first-sentence2 .result) (c .first-sentence2 .ensures (s .args .b .now) w (d .indexed)), used-same (s .pre .2))
 
 covers-requires : tie.Need-covers-requires Inv-loop μ-loop
 covers-requires c κs = let u = c .before .before .loop .inv .1 in (used-site u (c .before .before .before .before .before .before .before .before .before .pre .0), sentence-below (c .before .before) (c .before .loop-test .taken), u .remembers)
@@ -87,9 +93,11 @@ returns : tie.Need-returns Inv-loop μ-loop
 returns c =
     let s = (c .before .before .before .before .before .before .before .before .before .before .before .before .before) in
     let t = c .before .before .before .before .before .loop-test .taken in (
-      λ w x y d e g l.
+      λ w x y d e g l k.
           let z = sentence-of d (c .before .before .before .before .before .before .loop .s) (sentence-below (c .before .before .before .before .before .before) t) in
-          covering-found (keep s) w (s .args .f) x e (y .site .argument) (c .before .before .before .before .before .before .loop .inv .0 w x y d e g l) (z .element) (z .is) (omega (arith, t, end-is (c .before .before .before .before .before .before .before .before .before) w d)) (sym (asked (c .before .before .before) w x y (z .element) d e g l (z .is)) ∙ c .if1 .taken),
+          let a = c .before .before .before .before .before .before .loop .inv .0 w x y d e g l k in
+          let o = owned-at (c .before .before .before .before .before .before) t w x d e (z .element) (z .is) (a .from) in
+          covering-found (keep s) w (s .args .f) x e (y .site .argument) a (z .element) (z .is) (o .upto) (sym (asked (c .before .before .before) w x y (z .element) d o g l k) ∙ c .if1 .taken),
       used-then (c .before .before .before .before .before .before .loop .inv .1) (c .before .before .before .covers .ensures .1),
     )
 
@@ -101,10 +109,13 @@ loop-less c = omega (arith, c .before .before .before .before .before .loop-test
 
 loop-again : tie.Need-loop-again Inv-loop μ-loop
 loop-again c =
-    let s = (c .before .before .before .before .before .before .before .before .before .before .before .before .before) in (
-      λ w x y d e g l.
-          let z = sentence-of d (c .before .before .before .before .before .before .loop .s) (sentence-below (c .before .before .before .before .before .before) (c .before .before .before .before .before .loop-test .taken)) in
-          covering-next (keep s) w (s .args .f) x e (y .site .argument) (c .before .before .before .before .before .before .loop .inv .0 w x y d e g l) (z .element) (z .is) (sym (asked (c .before .before .before) w x y (z .element) d e g l (z .is)) ∙ c .if1 .left),
+    let s = (c .before .before .before .before .before .before .before .before .before .before .before .before .before) in
+    let t = c .before .before .before .before .before .loop-test .taken in (
+      λ w x y d e g l k.
+          let z = sentence-of d (c .before .before .before .before .before .before .loop .s) (sentence-below (c .before .before .before .before .before .before) t) in
+          let a = c .before .before .before .before .before .before .loop .inv .0 w x y d e g l k in
+          let o = owned-at (c .before .before .before .before .before .before) t w x d e (z .element) (z .is) (a .from) in
+          covering-next (keep s) w (s .args .f) x e (y .site .argument) a (z .element) (z .is) (sym (asked (c .before .before .before) w x y (z .element) d o g l k) ∙ c .if1 .left),
       used-then (c .before .before .before .before .before .before .loop .inv .1) (c .before .before .before .covers .ensures .1),
     )
 
@@ -114,7 +125,7 @@ same-length-2 c = c .before .loop .inv .1 .length
 returns-2 : tie.Need-returns-2 Inv-loop μ-loop
 returns-2 c =
     let s = (c .before .before .before .before .before .before .before .before) in
-    (λ w x y d e g l. covering-end (keep s) w (s .args .f) x e (y .site .argument) (c .before .loop .inv .0 w x y d e g l) (omega (arith, c .loop-test .left, end-is (c .before .before .before .before) w d)), c .before .loop .inv .1)
+    (λ w x y d e g l k. covering-end (keep s) w (s .args .f) x e (y .site .argument) (c .before .loop .inv .0 w x y d e g l k) (omega (arith, c .loop-test .left, end-is (c .before .before .before .before) w d)), c .before .loop .inv .1)
 
 pub is-covered-spec : {M : Type 1} → statement M
 is-covered-spec =

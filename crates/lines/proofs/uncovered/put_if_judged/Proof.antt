@@ -4,7 +4,7 @@ use native.Mathlib.Omega.{arith}
 use mathlib.Core.Path.{sym, _∙_}
 use mathlib.Core.Bool.{Bool, true, false}
 use Rattle.index.specs.Tables.{sentencesBefore}
-use Rattle.cleaning.specs.History.{isThere}
+use Rattle.cleaning.specs.History.{isThere, afterAll}
 use Rattle.cleaning.specs.Indexed.{sitesOf, fellOf}
 use Rattle.cleaning.specs.ToldReport.{uncoveredIn}
 use Rattle.cleaning.proofs.Meeting.{not-is}
@@ -16,7 +16,7 @@ use Rattle.lines.proofs.uncovered.put_if_judged.Statement.{statement}
 use Rattle.lines.proofs.uncovered.put_if_judged.Tie as tie
 
 abbrev keep : tie.Start → ℕ → Bool
-keep s = isThere (fellOf (s .args .plan) (s .args .work .now)) (s .args .round)
+keep s = isThere (fellOf (s .args .plan) (s .args .work .now)) afterAll
 
 is-judged-requires : tie.Need-is-judged-requires
 is-judged-requires c κs = let s = (c .before .before .before .before) in (record { body = s .args .b .now; program = s .pre .0 .program; indexed = s .pre .0 .readable .indexed }, s .pre .1)

@@ -1,22 +1,35 @@
 -- `lines::uncovered::put_if_uncovered` meets its contract. Assumes nothing.
 use Prim.Native.Nat.{ℕ}
 use native.Mathlib.Omega.{arith}
-use mathlib.Core.Path.{sym, ap, _∙_}
+use mathlib.Core.Path.{_≡_, sym, ap, _∙_}
 use mathlib.Core.Bool.{Bool, true, false, not}
+use mathlib.Core.Option.{some}
+use lib.ListN.{getElem?}
+use Rattle.image.specs.Syntax.{Function, Program}
+use Rattle.restrictions.specs.Entries.{Held}
+use Rattle.index.specs.Calls.{isListed}
 use Rattle.index.specs.Tables.{sentencesBefore}
-use Rattle.cleaning.specs.History.{isThere}
+use Rattle.cleaning.specs.History.{isThere, afterAll}
 use Rattle.cleaning.specs.Indexed.{sitesOf, fellOf}
 use Rattle.cleaning.proofs.Meeting.{not-is}
 use Rattle.cleaning.proofs.Room.{used-same}
+use Rattle.lines.specs.Emitting.{Readable}
 use Rattle.lines.proofs.RoomUsed.{used-back, used-readable, used-site}
-use Rattle.lines.proofs.UncoveredLists.{not-leading, is-covered, is-candidate}
+use Rattle.lines.proofs.UncoveredLists.{leading-there, not-leading, is-covered, is-candidate}
 use Rattle.lines.proofs.UncoveredLoops.{uncovered-nothing, uncovered-same}
 use borrow.Author.Needs.{needs}
 use Rattle.lines.proofs.uncovered.put_if_uncovered.Statement.{statement}
 use Rattle.lines.proofs.uncovered.put_if_uncovered.Tie as tie
 
 abbrev keep : tie.Start → ℕ → Bool
-keep s = isThere (fellOf (s .args .plan) (s .args .work .now)) (s .args .round)
+keep s = isThere (fellOf (s .args .plan) (s .args .work .now)) afterAll
+
+-- A site that leads is there.
+here : (c : tie.Else1) (w : Program) (x : Function) (y : Held) → let s = c .before .before .before .before .before .before in let a = s .args in Readable (a .b .now) w (a .work .now) (a .plan) → getElem? (w .functions) (a .f) ≡ some x → getElem? (sitesOf w) (a .i) ≡ some y → isListed true (x .name) y ≡ true → keep s (y .sentence) ≡ true
+here c w x y d e g l =
+    let s = c .before .before .before .before .before .before in
+    let a = s .args in
+    leading-there (keep s) (x .name) (sitesOf w) (a .i) y (sym (c .before .leads .ensures (a .b .now) w (a .f) x y (d .indexed) e g l) ∙ not-is (c .before .leads .result) false (c .if1 .left))
 
 leads-requires : tie.Need-leads-requires
 leads-requires c κs =
@@ -49,7 +62,7 @@ returns-2 c =
     let s = (c .before .before .before .before .before .before .before .before .before .before .before) in
     let a = s .args in (
       λ w x y d e g l.
-          uncovered-same (is-covered (keep s) (sitesOf w) x (sentencesBefore (a .f) (w .functions)) (a .i) y (c .before .before .before .is-covered .ensures .0 w x y d e g l ∙ ap not (c .if2 .taken)))
+          uncovered-same (is-covered (keep s) (sitesOf w) x (sentencesBefore (a .f) (w .functions)) (a .i) y (c .before .before .before .is-covered .ensures .0 w x y d e g l (here (c .before .before .before .before .before) w x y d e g l) ∙ ap not (c .if2 .taken)))
           (uncovered-nothing w (a .out .now) (a .listed .at) (a .listed .count) (a .listed .function) (a .listed .item)),
       ((omega arith, s .pre .5, s .pre .2), c .before .before .before .is-covered .ensures .1),
     )
@@ -75,7 +88,7 @@ returns-3 c =
           uncovered-same
           (is-candidate (keep s) (sitesOf w) x (sentencesBefore (a .f) (w .functions)) (a .i) y
           (sym (c .before .before .before .before .before .before .before .before .before .before .before .leads .ensures (a .b .now) w (a .f) x y (d .indexed) e g l) ∙ not-is (c .before .before .before .before .before .before .before .before .before .before .before .leads .result) false (c .before .before .before .before .before .before .before .before .before .before .if1 .left))
-          (c .before .before .before .before .before .before .before .before .is-covered .ensures .0 w x y d e g l ∙ ap not (c .before .before .before .before .before .if2 .left)))
+          (c .before .before .before .before .before .before .before .before .is-covered .ensures .0 w x y d e g l (here (c .before .before .before .before .before .before .before .before .before .before) w x y d e g l) ∙ ap not (c .before .before .before .before .before .if2 .left)))
           (c .before .before .put-candidate .ensures .0 w x y (used-readable u d) e g l),
       (c .before .before .put-candidate .ensures .1, u),
     )

@@ -7,7 +7,7 @@ use mathlib.Core.List.{[]}
 use Rattle.image.specs.Syntax.{Program}
 use Rattle.index.specs.Tables.{sentencesBefore}
 use Rattle.cleaning.specs.CleanReport.{sameUncovered}
-use Rattle.cleaning.specs.History.{isThere}
+use Rattle.cleaning.specs.History.{isThere, afterAll}
 use Rattle.cleaning.specs.Indexed.{sitesOf, fellOf}
 use Rattle.cleaning.specs.Room.{Used}
 use Rattle.cleaning.specs.ToldReport.{uncoveredTold}
@@ -27,15 +27,15 @@ use Rattle.lines.proofs.uncovered.put_uncovered.Tie as tie
 
 -- The functions before f are told.
 abbrev Inv-loop : tie.InvT-loop
-Inv-loop b work₀ plan round out₀ at last₀ f₀ work out last f =
-    ((w : Program) → Readable b w work₀ plan → OverFunctions (isThere (fellOf plan work₀) round) w out₀ at (plan .sites) f out (last .at) (last .count) (last .function) (last .item))
+Inv-loop b work₀ plan out₀ at last₀ f₀ work out last f =
+    ((w : Program) → Readable b w work₀ plan → OverFunctions (isThere (fellOf plan work₀) afterAll) w out₀ at (plan .sites) f out (last .at) (last .count) (last .function) (last .item))
     × (last .at ≤ at + 655360000 * f) × (last .count ≤ last .at) × (last .function ≤ f) × (f ≤ plan .functions) × Used b plan work₀ work
 
 abbrev μ-loop : tie.MeasureT-loop
-μ-loop b work₀ plan round out₀ at last₀ f₀ work out last f = plan .functions - f
+μ-loop b work₀ plan out₀ at last₀ f₀ work out last f = plan .functions - f
 
 abbrev keep : tie.Start Inv-loop μ-loop → ℕ → Bool
-keep s = isThere (fellOf (s .args .plan) (s .args .work .now)) (s .args .round)
+keep s = isThere (fellOf (s .args .plan) (s .args .work .now)) afterAll
 
 abbrev Given : tie.Start Inv-loop μ-loop → Program → Type 0
 Given s w = Readable (s .args .b .now) w (s .args .work .now) (s .args .plan)
@@ -71,7 +71,7 @@ loop-again c =
       λ w d.
           let x = function-of d (c .before .before .before .before .before .before .before .before .before .loop .f) (c .before .before .before .before .before .before .before .if1 .taken) in
           over-next (keep s) w (s .args .out .now) (s .args .at) (s .args .plan .sites) (i .0 w d) (x .element) (x .is)
-          (uncovered-same (ap (λ (k : ℕ → Bool). ofFunction k (sitesOf w) (λ (n : ℕ). sentencesBefore n (w .functions)) (c .before .before .before .before .before .before .before .before .before .loop .f) (x .element)) (used-keep (i .5) (s .args .round))) (p .ensures .0 w (x .element) (used-readable (i .5) d) (x .is))),
+          (uncovered-same (ap (λ (k : ℕ → Bool). ofFunction k (sitesOf w) (λ (n : ℕ). sentencesBefore n (w .functions)) (c .before .before .before .before .before .before .before .before .before .loop .f) (x .element)) (used-keep (i .5) afterAll)) (p .ensures .0 w (x .element) (used-readable (i .5) d) (x .is))),
       omega (arith, p .ensures .1 .0 .0, i .1),
       p .ensures .1 .0 .1,
       omega (arith, p .ensures .1 .0 .2),

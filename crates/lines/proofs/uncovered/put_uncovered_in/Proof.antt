@@ -12,7 +12,7 @@ use Rattle.index.specs.Calls.{isListed}
 use Rattle.index.specs.Links.{entryNext}
 use Rattle.index.specs.Tables.{sentencesBefore}
 use Rattle.index.proofs.First.{Element}
-use Rattle.cleaning.specs.History.{isThere}
+use Rattle.cleaning.specs.History.{isThere, afterAll}
 use Rattle.cleaning.specs.Indexed.{sitesOf, fellOf}
 use Rattle.cleaning.specs.Room.{Used}
 use Rattle.cleaning.proofs.Meeting.{site-element}
@@ -30,16 +30,16 @@ use Rattle.lines.proofs.uncovered.put_uncovered_in.Tie as tie
 
 -- The sites before i are told.
 abbrev Inv-loop : tie.InvT-loop
-Inv-loop b work₀ plan f round out₀ links i₀ last₀ work out i last =
+Inv-loop b work₀ plan f out₀ links i₀ last₀ work out i last =
     ((w : Program) (x : Function) → Readable b w work₀ plan → getElem? (w .functions) f ≡ some x
-    → OnSites (isThere (fellOf plan work₀) round) w x (sentencesBefore f (w .functions)) out₀ (last₀ .at) (last₀ .count) (last₀ .function) (last₀ .item) i out (last .at) (last .count) (last .function) (last .item))
+    → OnSites (isThere (fellOf plan work₀) afterAll) w x (sentencesBefore f (w .functions)) out₀ (last₀ .at) (last₀ .count) (last₀ .function) (last₀ .item) i out (last .at) (last .count) (last .function) (last .item))
     × (last .count ≤ last .at) × (last .function ≤ f) × Used b plan work₀ work
 
 abbrev μ-loop : tie.MeasureT-loop
-μ-loop b work₀ plan f round out₀ links i₀ last₀ work out i last = plan .sites - i
+μ-loop b work₀ plan f out₀ links i₀ last₀ work out i last = plan .sites - i
 
 abbrev keep : tie.Start Inv-loop μ-loop → ℕ → Bool
-keep s = isThere (fellOf (s .args .plan) (s .args .work .now)) (s .args .round)
+keep s = isThere (fellOf (s .args .plan) (s .args .work .now)) afterAll
 
 abbrev Given : tie.Start Inv-loop μ-loop → Program → Type 0
 Given s w = Readable (s .args .b .now) w (s .args .work .now) (s .args .plan)
@@ -114,7 +114,7 @@ loop-again c =
           let i = c .before .before .before .before .before .before .before .before .before .before .before .loop .inv .0 w x d e in
           let y = site-element (d .indexed) (s .args .f) x e (c .before .before .before .before .before .before .before .before .before .before .before .loop .i) (c .before .before .before .before .before .before .before .before .before .if1 .taken) in
           sites-next (keep s) w x (sentencesBefore (s .args .f) (w .functions)) i (y .element) (y .is)
-          (uncovered-same (ap (λ (k : ℕ → Bool). uncoveredAt k (sitesOf w) x (sentencesBefore (s .args .f) (w .functions)) (c .before .before .before .before .before .before .before .before .before .before .before .loop .i) (y .element)) (used-keep u (s .args .round))) (p .ensures .0 w x (y .element) (used-readable u d) e (y .is) (i .listed (y .element) (y .is))))
+          (uncovered-same (ap (λ (k : ℕ → Bool). uncoveredAt k (sitesOf w) x (sentencesBefore (s .args .f) (w .functions)) (c .before .before .before .before .before .before .before .before .before .before .before .loop .i) (y .element)) (used-keep u afterAll)) (p .ensures .0 w x (y .element) (used-readable u d) e (y .is) (i .listed (y .element) (y .is))))
           (p .ensures .1 .0 .0) (c .next-site .result) (next c w x d e),
       p .ensures .1 .0 .1,
       p .ensures .1 .0 .2,

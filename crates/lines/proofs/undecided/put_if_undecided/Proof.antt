@@ -4,12 +4,13 @@ use native.Mathlib.Omega.{arith}
 use mathlib.Core.Path.{sym, _∙_}
 use mathlib.Core.Bool.{Bool, true, false}
 use Rattle.cleaning.specs.CleanReport.{sameUndecided}
-use Rattle.cleaning.specs.History.{isThere}
+use Rattle.cleaning.specs.History.{isThere, afterAll}
 use Rattle.cleaning.specs.Indexed.{sitesOf, fellOf}
 use Rattle.cleaning.proofs.Meeting.{not-is}
 use Rattle.cleaning.proofs.Room.{used-same}
 use Rattle.report.specs.Report.{undecidedLine}
 use Rattle.lines.specs.Undecided.{lastUndecided}
+use Rattle.lines.proofs.Places.{owner-below, owned-below}
 use Rattle.lines.proofs.RoomUsed.{used-readable, used-some}
 use Rattle.lines.proofs.Telling.{listing-nothing, listing-same}
 use Rattle.lines.proofs.UndecidedLists.{not-there, is-decided, is-candidate}
@@ -18,10 +19,10 @@ use Rattle.lines.proofs.undecided.put_if_undecided.Statement.{statement
 use Rattle.lines.proofs.undecided.put_if_undecided.Tie as tie
 
 abbrev keep : tie.Start → ℕ → Bool
-keep s = isThere (fellOf (s .args .plan) (s .args .work .now)) (s .args .round)
+keep s = isThere (fellOf (s .args .plan) (s .args .work .now)) afterAll
 
 is-there-requires : tie.Need-is-there-requires
-is-there-requires c κs = let p = c .before .before .before .before .pre in (p .2, omega (arith, p .0 .readable .indexed .fits), p .0 .readable .indexed .small)
+is-there-requires c κs = let p = c .before .before .before .before .pre in (owned-below (p .0 .readable) (p .0 .owns), omega (arith, p .0 .readable .indexed .fits), p .0 .readable .indexed .small)
 
 same-length : tie.Need-same-length
 same-length c = search needs
@@ -30,14 +31,14 @@ returns : tie.Need-returns
 returns c =
     let s = (c .before .before .before .before .before .before) in
     let a = s .args in (
-      λ w x y d e g.
+      λ w x y d o.
           listing-same undecidedLine sameUndecided (not-there (keep s) (sitesOf w) x (a .s) y (sym (c .before .is-there .ensures) ∙ not-is (c .before .is-there .result) true (c .if1 .taken)))
           (listing-nothing undecidedLine sameUndecided (lastUndecided w (a .listed .function) (a .listed .item)) (a .out .now) (a .listed .at) (a .listed .count)),
-      ((omega arith, s .pre .5, s .pre .3), used-same (s .pre .6)),
+      ((omega arith, s .pre .3, s .pre .1), used-same (s .pre .4)),
     )
 
 is-decided-requires : tie.Need-is-decided-requires
-is-decided-requires c κs = let p = c .before .before .before .before .before .before .before .pre in (p .0, p .1, p .2, p .6)
+is-decided-requires c κs = let p = c .before .before .before .before .before .before .before .pre in (p .0, p .4)
 
 same-length-2 : tie.Need-same-length-2
 same-length-2 c = search needs
@@ -46,14 +47,17 @@ returns-2 : tie.Need-returns-2
 returns-2 c =
     let s = (c .before .before .before .before .before .before .before .before .before .before .before) in
     let a = s .args in (
-      λ w x y d e g.
-          listing-same undecidedLine sameUndecided (is-decided (keep s) (sitesOf w) x (a .s) y (sym (c .before .before .before .is-decided .ensures .0 w x y d e g) ∙ c .if2 .taken))
+      λ w x y d o.
+          listing-same undecidedLine sameUndecided (is-decided (keep s) (sitesOf w) x (a .s) y (sym (c .before .before .before .is-decided .ensures .0 w x y d o) ∙ c .if2 .taken))
           (listing-nothing undecidedLine sameUndecided (lastUndecided w (a .listed .function) (a .listed .item)) (a .out .now) (a .listed .at) (a .listed .count)),
-      ((omega arith, s .pre .5, s .pre .3), c .before .before .before .is-decided .ensures .1),
+      ((omega arith, s .pre .3, s .pre .1), c .before .before .before .is-decided .ensures .1),
     )
 
 put-candidate-requires : tie.Need-put-candidate-requires
-put-candidate-requires c κs = let p = c .before .before .before .before .before .before .before .before .before .before .before .before .before .pre in (used-some (c .before .before .before .before .before .is-decided .ensures .1) (p .0), p .1, p .2, omega (arith, p .1, p .3), p .4, p .5)
+put-candidate-requires c κs =
+    let p = c .before .before .before .before .before .before .before .before .before .before .before .before .before .pre in
+    let h = owner-below (p .0 .readable) (p .0 .owns) in
+    (used-some (c .before .before .before .before .before .is-decided .ensures .1) (record { program = p .0 .program; readable = p .0 .readable }), h, owned-below (p .0 .readable) (p .0 .owns), omega (arith, h, p .1), p .2, p .3)
 
 same-length-3 : tie.Need-same-length-3
 same-length-3 c = search needs
@@ -66,10 +70,10 @@ returns-3 c =
     let s = (c .before .before .before .before .before .before .before .before .before .before .before .before .before .before .before .before) in
     let a = s .args in
     let u = c .before .before .before .before .before .before .before .before .is-decided .ensures .1 in (
-      λ w x y d e g.
+      λ w x y d o.
           listing-same undecidedLine sameUndecided
-          (is-candidate (keep s) (sitesOf w) x (a .s) y (sym (c .before .before .before .before .before .before .before .before .before .before .before .is-there .ensures) ∙ not-is (c .before .before .before .before .before .before .before .before .before .before .before .is-there .result) false (c .before .before .before .before .before .before .before .before .before .before .if1 .left)) (sym (c .before .before .before .before .before .before .before .before .is-decided .ensures .0 w x y d e g) ∙ c .before .before .before .before .before .if2 .left))
-          (c .before .before .put-candidate .ensures .0 w x y (used-readable u d) e g),
+          (is-candidate (keep s) (sitesOf w) x (a .s) y (sym (c .before .before .before .before .before .before .before .before .before .before .before .is-there .ensures) ∙ not-is (c .before .before .before .before .before .before .before .before .before .before .before .is-there .result) false (c .before .before .before .before .before .before .before .before .before .before .if1 .left)) (sym (c .before .before .before .before .before .before .before .before .is-decided .ensures .0 w x y d o) ∙ c .before .before .before .before .before .if2 .left))
+          (c .before .before .put-candidate .ensures .0 w x y (used-readable u d) (o .function) (o .sentence)),
       (c .before .before .put-candidate .ensures .1, u),
     )
 

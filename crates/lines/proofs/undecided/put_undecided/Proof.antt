@@ -8,7 +8,7 @@ use Rattle.image.specs.Syntax.{Program}
 use Rattle.restrictions.proofs.Numbered.{own-counted}
 use Rattle.index.specs.Tables.{sentencesBefore}
 use Rattle.cleaning.specs.CleanReport.{sameUndecided}
-use Rattle.cleaning.specs.History.{isThere}
+use Rattle.cleaning.specs.History.{isThere, afterAll}
 use Rattle.cleaning.specs.Indexed.{sitesOf, fellOf}
 use Rattle.cleaning.specs.Room.{Used}
 use Rattle.cleaning.specs.ToldReport.{undecidedTold}
@@ -29,15 +29,15 @@ use Rattle.lines.proofs.undecided.put_undecided.Tie as tie
 
 -- The functions before f are told.
 abbrev Inv-loop : tie.InvT-loop
-Inv-loop b work₀ plan round out₀ at last₀ f₀ work out last f =
-    ((w : Program) → Readable b w work₀ plan → OverFunctions (isThere (fellOf plan work₀) round) w out₀ at (plan .sentences) f out (last .at) (last .count) (last .function) (last .item))
+Inv-loop b work₀ plan out₀ at last₀ f₀ work out last f =
+    ((w : Program) → Readable b w work₀ plan → OverFunctions (isThere (fellOf plan work₀) afterAll) w out₀ at (plan .sentences) f out (last .at) (last .count) (last .function) (last .item))
     × (last .count ≤ last .at) × (last .function ≤ f) × Used b plan work₀ work
 
 abbrev μ-loop : tie.MeasureT-loop
-μ-loop b work₀ plan round out₀ at last₀ f₀ work out last f = plan .functions - f
+μ-loop b work₀ plan out₀ at last₀ f₀ work out last f = plan .functions - f
 
 abbrev keep : tie.Start Inv-loop μ-loop → ℕ → Bool
-keep s = isThere (fellOf (s .args .plan) (s .args .work .now)) (s .args .round)
+keep s = isThere (fellOf (s .args .plan) (s .args .work .now)) afterAll
 
 abbrev Given : tie.Start Inv-loop μ-loop → Program → Type 0
 Given s w = Readable (s .args .b .now) w (s .args .work .now) (s .args .plan)
@@ -75,7 +75,7 @@ loop-again c =
       λ w d.
           let x = function-of d (c .before .before .before .before .before .before .before .before .before .loop .f) (c .before .before .before .before .before .before .before .if1 .taken) in
           over-next (keep s) w (s .args .out .now) (s .args .at) (s .args .plan .sentences) (c .before .before .before .before .before .before .before .before .before .loop .inv .0 w d) (x .element) (x .is)
-          (listing-same undecidedLine sameUndecided (ap (λ (k : ℕ → Bool). ofFunction k (sitesOf w) (λ (n : ℕ). sentencesBefore n (w .functions)) (c .before .before .before .before .before .before .before .before .before .loop .f) (x .element)) (used-keep u (s .args .round))) (p .ensures .0 w (x .element) (used-readable u d) (x .is)))
+          (listing-same undecidedLine sameUndecided (ap (λ (k : ℕ → Bool). ofFunction k (sitesOf w) (λ (n : ℕ). sentencesBefore n (w .functions)) (c .before .before .before .before .before .before .before .before .before .loop .f) (x .element)) (used-keep u afterAll)) (p .ensures .0 w (x .element) (used-readable u d) (x .is)))
           (p .ensures .1 .0 .0 w (used-readable u d)),
       p .ensures .1 .0 .1,
       omega (arith, p .ensures .1 .0 .2),

@@ -10,7 +10,7 @@ use Rattle.restrictions.proofs.Numbered.{own-counted}
 use Rattle.index.specs.Tables.{sentencesBefore}
 use Rattle.index.proofs.First.{Element}
 use Rattle.cleaning.specs.CleanReport.{sameUndecided}
-use Rattle.cleaning.specs.History.{isThere}
+use Rattle.cleaning.specs.History.{isThere, afterAll}
 use Rattle.cleaning.specs.Indexed.{sitesOf, fellOf, SomeBody}
 use Rattle.cleaning.specs.Room.{Used}
 use Rattle.cleaning.proofs.Owned.{before-most}
@@ -28,15 +28,15 @@ use Rattle.lines.proofs.undecided.put_undecided_in.Tie as tie
 
 -- The sentences before s are told.
 abbrev Inv-loop : tie.InvT-loop
-Inv-loop b work₀ plan f round out₀ end s₀ last₀ work out s last =
-    ((w : Program) (x : Function) → Readable b w work₀ plan → getElem? (w .functions) f ≡ some x → InFunction (isThere (fellOf plan work₀) round) w f x out₀ (last₀ .at) (last₀ .count) (last₀ .function) (last₀ .item) s out (last .at) (last .count) (last .function) (last .item))
+Inv-loop b work₀ plan f out₀ end s₀ last₀ work out s last =
+    ((w : Program) (x : Function) → Readable b w work₀ plan → getElem? (w .functions) f ≡ some x → InFunction (isThere (fellOf plan work₀) afterAll) w f x out₀ (last₀ .at) (last₀ .count) (last₀ .function) (last₀ .item) s out (last .at) (last .count) (last .function) (last .item))
     × (last .count ≤ last .at) × (last .function ≤ f) × Used b plan work₀ work
 
 abbrev μ-loop : tie.MeasureT-loop
-μ-loop b work₀ plan f round out₀ end s₀ last₀ work out s last = end - s
+μ-loop b work₀ plan f out₀ end s₀ last₀ work out s last = end - s
 
 abbrev keep : tie.Start Inv-loop μ-loop → ℕ → Bool
-keep s = isThere (fellOf (s .args .plan) (s .args .work .now)) (s .args .round)
+keep s = isThere (fellOf (s .args .plan) (s .args .work .now)) afterAll
 
 abbrev Given : tie.Start Inv-loop μ-loop → Program → Type 0
 Given s w = Readable (s .args .b .now) w (s .args .work .now) (s .args .plan)
@@ -81,7 +81,9 @@ put-if-undecided-requires c κs =
     let d = s .pre .0 .readable in
     let h = c .before .before .before .loop .inv in
     let i = h .0 w (x .element) d (x .is) in
-    (used-some (h .3) (s .pre .0), s .pre .1, sentence-below (c .before .before .before) (c .before .before .loop-test .taken), h .2, omega (arith, i .short, i .from, s .pre .3 w d, end-is (c .before .before .before .before .before .before) w d, c .before .before .loop-test .taken), h .1, h .3 .remembers)
+    let y = sentence-of d (c .before .before .before .loop .s) (sentence-below (c .before .before .before) (c .before .before .loop-test .taken)) in
+    let e = end-is (c .before .before .before .before .before .before) w d in
+    (record { program = w; readable = used-readable (h .3) d; function = x .element; sentence = y .element; owns = record { function = x .is; sentence = y .is; from = i .from; upto = omega (arith, e, c .before .before .loop-test .taken) } }, h .2, omega (arith, i .short, i .from, s .pre .3 w d, end-is (c .before .before .before .before .before .before) w d, c .before .before .loop-test .taken), h .1, h .3 .remembers)
 
 add-s : tie.Need-add-s Inv-loop μ-loop
 add-s c = let d = c .before .before .before .before .before .before .before .before .before .before .before .before .before .before .before .before .pre .0 .readable .indexed in omega (arith, sentence-below (c .before .before .before .before .before .before .before .before) (c .before .before .before .before .before .before .before .loop-test .taken), d .fits, d .small)
@@ -97,8 +99,10 @@ loop-again c =
     let t = c .before .before .before .before .before .before .before .loop-test .taken in (
       λ w x d e.
           let y = sentence-of d (c .before .before .before .before .before .before .before .before .loop .s) (sentence-below (c .before .before .before .before .before .before .before .before) t) in
-          in-next (keep s) w (s .args .f) x e (c .before .before .before .before .before .before .before .before .loop .inv .0 w x d e) (y .element) (y .is) (omega (arith, t, end-is (c .before .before .before .before .before .before .before .before .before .before .before) w d))
-          (listing-same undecidedLine sameUndecided (ap (λ (k : ℕ → Bool). undecidedAt k (sitesOf w) x (c .before .before .before .before .before .before .before .before .loop .s) (y .element)) (used-keep u (s .args .round))) (p .ensures .0 w x (y .element) (used-readable u d) e (y .is))) (p .ensures .1 .0 .0),
+          let i = c .before .before .before .before .before .before .before .before .loop .inv .0 w x d e in
+          let l : c .before .before .before .before .before .before .before .before .loop .s < sentencesBefore (suc (s .args .f)) (w .functions) = omega (arith, t, end-is (c .before .before .before .before .before .before .before .before .before .before .before) w d) in
+          in-next (keep s) w (s .args .f) x e i (y .element) (y .is) l
+          (listing-same undecidedLine sameUndecided (ap (λ (k : ℕ → Bool). undecidedAt k (sitesOf w) x (c .before .before .before .before .before .before .before .before .loop .s) (y .element)) (used-keep u afterAll)) (p .ensures .0 w x (y .element) (used-readable u d) (record { function = e; sentence = y .is; from = i .from; upto = l }))) (p .ensures .1 .0 .0),
       p .ensures .1 .0 .1,
       p .ensures .1 .0 .2,
       used-then u (p .ensures .1 .1),

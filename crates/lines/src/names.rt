@@ -1,5 +1,6 @@
 // The functions that a call or block in an argument makes uncharacterised.
 use crate::sentence::put_name;
+use crate::alike::same_names;
 use index::Plan;
 use index::names::function_name;
 use index::table::head_site;
@@ -42,16 +43,6 @@ fn is_uncharacterised(work: &[u32], plan: Plan, root: usize, f: usize) -> bool
         return false;
     }
     is_opened(work, plan, f)
-}
-
-// Whether two functions have the same name.
-fn same_names(b: &[u8], work: &[u32], plan: Plan, g: usize, f: usize) -> bool
-    requires { ⌜ SomeReadable (now b) (now work) plan × (g < plan .functions) × (f < plan .functions) ⌝ }
-    ensures { λ r. ⌜ ((w : Program) (y x : Function) → Readable (now (b .entry)) w (now (work .entry)) plan → getElem? (w .functions) g ≡ some y → getElem? (w .functions) f ≡ some x → r ≡ sameName (y .name) (x .name)) ⌝ }
-{
-    let p = place_of(work, g);
-    let q = place_of(work, f);
-    same_name(function_name(b, p), function_name(b, q))
 }
 
 // Whether the g-th function is listed under the name of the f-th.

@@ -1,11 +1,9 @@
 // Whether a sentence that fell repeats one that fell before it: same function name, same text.
+use crate::alike::same_names;
 use crate::alike::same_pattern;
 use cleaning::rounds::first_sentence;
 use cleaning::walks::fell;
 use index::Plan;
-use index::names::function_name;
-use index::table::place_of;
-use symbols::same_name;
 ghost use mathlib.Core.Path.{_≡_};
 ghost use mathlib.Core.Bool.{_&&_, _||_, not};
 ghost use mathlib.Core.Option.{some};
@@ -14,7 +12,6 @@ ghost use lib.Dec.{eqb, ltb};
 ghost use lib.ListN.{getElem?};
 ghost use Rattle.image.specs.Syntax.{Function, Program};
 ghost use Rattle.image.specs.Parts.{Sentence, ownSentences};
-ghost use Rattle.symbols.specs.Names.{sameName};
 ghost use Rattle.index.specs.Tables.{sentencesBefore};
 ghost use Rattle.cleaning.specs.Indexed.{fellOf};
 ghost use Rattle.lines.specs.Emitting.{Readable, SomeReadable};
@@ -64,16 +61,6 @@ fn printed_in(b: &[u8], work: &[u32], plan: Plan, g: usize, s: usize, round: usi
     false
 }
 
-// Whether the g-th and the f-th function have the same name.
-fn is_namesake(b: &[u8], work: &[u32], plan: Plan, g: usize, f: usize) -> bool
-    requires { ⌜ SomeReadable (now b) (now work) plan × (g < plan .functions) × (f < plan .functions) ⌝ }
-    ensures { λ r. ⌜ ((w : Program) (v x : Function) → Readable (now (b .entry)) w (now (work .entry)) plan → getElem? (w .functions) g ≡ some v → getElem? (w .functions) f ≡ some x → r ≡ sameName (v .name) (x .name)) ⌝ }
-{
-    let p = place_of(work, g);
-    let q = place_of(work, f);
-    same_name(function_name(b, p), function_name(b, q))
-}
-
 // Whether the g-th function has the name of the f-th and such a sentence.
 fn repeated_in(
     b: &[u8],
@@ -87,7 +74,7 @@ fn repeated_in(
     requires { ⌜ SomeReadable (now b) (now work) plan × (g < plan .functions) × (f < plan .functions) × (s < plan .sentences) ⌝ }
     ensures { λ r. ⌜ ((w : Program) (v x : Function) (y : Sentence) → Readable (now (b .entry)) w (now (work .entry)) plan → getElem? (w .functions) g ≡ some v → getElem? (w .functions) f ≡ some x → getElem? (ownSentences (w .functions)) s ≡ some y → RepeatedIn (fellOf plan (now (work .entry))) round s (x .name) (y .pattern) (v .name) (ownSentences (w .functions)) (sentencesBefore g (w .functions)) (sentencesBefore (suc g) (w .functions)) r) ⌝ }
 {
-    if !is_namesake(b, work, plan, g, f) {
+    if !same_names(b, work, plan, g, f) {
         return false;
     }
     printed_in(b, work, plan, g, s, round)

@@ -6,13 +6,13 @@ use denote.Exit.{no, yes}
 use Rattle.lines.proofs.repeated.repeated_in.Statement.{statement}
 use Rattle.lines.proofs.repeated.repeated_in.Tie as tie
 
-is-namesake-requires : tie.Need-is-namesake-requires
-is-namesake-requires c κs = (c .before .before .pre .0, c .before .before .pre .1, c .before .before .pre .2)
+same-names-requires : tie.Need-same-names-requires
+same-names-requires c κs = (c .before .before .pre .0, c .before .before .pre .1, c .before .before .pre .2)
 
 returns : tie.Need-returns
 returns c = λ w v x y d e g h. record {
   yes = λ a. absurd (false≢true a);
-  no = λ a z. absurd (true≢false (sym z ∙ sym (c .before .is-namesake .ensures w v x d e g) ∙ not-is (c .before .is-namesake .result) true (c .if1 .taken)));
+  no = λ a z. absurd (true≢false (sym z ∙ sym (c .before .same-names .ensures w v x d e g) ∙ not-is (c .before .same-names .result) true (c .if1 .taken)));
 }
 
 printed-in-requires : tie.Need-printed-in-requires
@@ -22,7 +22,7 @@ returns-2 : tie.Need-returns-2
 returns-2 c = λ w v x y d e g h.
     let p = c .printed-in .ensures w y d h in
     record {
-      yes = λ a. (sym (c .before .before .is-namesake .ensures w v x d e g) ∙ not-is (c .before .before .is-namesake .result) false (c .before .if1 .left), p .yes a);
+      yes = λ a. (sym (c .before .before .same-names .ensures w v x d e g) ∙ not-is (c .before .before .same-names .result) false (c .before .if1 .left), p .yes a);
       no = λ a z. p .no a;
     }
 
@@ -30,7 +30,7 @@ pub repeated-in-spec : {M : Type 1} → statement M
 repeated-in-spec =
     tie.close
     (tie.spec
-    is-namesake-requires
+    same-names-requires
     returns
     printed-in-requires
     returns-2)

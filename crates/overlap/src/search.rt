@@ -1,5 +1,5 @@
-// The search: "sequence, split and term call one another on falling lengths". Where its calls would nest too deep, an equal
-// search goes on with a stack in the room.
+// The search: "sequence, split and term call one another on falling lengths". Where its calls would nest too deep, it goes on
+// with a stack in the room.
 use crate::Found;
 use crate::OVERLAP_FUEL;
 use crate::Room;
@@ -247,17 +247,13 @@ fn absorbing_split(
     ensures answers { λ r. ⌜ ((x : TermsAt Mode.pattern (drop rest (now (b .entry)))) (y : TermsAt Mode.pattern (drop other (now (b .entry)))) → r ≡ absorbingSplit sequence fuel (x .terms) (y .terms)) ⌝ }
     ensures keeps { λ _. ⌜ Searched (now (b .entry)) lent top (now (room .entry)) (now (room .exit)) ⌝ }
 {
-    let from = lent.frames + lent.begun + 4 * lent.slots;
-    let key = key_of(rest, other);
-    let known = recall(room, from, lent.slots, key);
-    if known != 0 {
-        return recalled(known, fuel);
-    }
     let found = takes(b, rest, other, fuel, deep, top, room, lent);
     let verdict = found.verdict;
     let left = found.fuel;
     if 0 < left {
         let value = 4 * (fuel - left) + code_of(verdict);
+        let key = key_of(rest, other);
+        let from = lent.frames + lent.begun + 4 * lent.slots;
         note(room, from, lent.slots, key, value);
     }
     found
@@ -268,50 +264,9 @@ fn shallower(deep: u32) -> u32 {
     if deep == 0 { 0 } else { deep - 1 }
 }
 
-// Two patterns, from p and q on.
-pub fn sequence(
-    b: &[u8],
-    p: usize,
-    q: usize,
-    fuel: u32,
-    deep: u32,
-    top: usize,
-    room: &mut [u32],
-    lent: Room,
-) -> Found
-    requires { ⌜ TermsAt Mode.pattern (drop p (now b)) × TermsAt Mode.pattern (drop q (now b)) × Lends (now b) (now room) lent top × (fuel ≤ 4096) ⌝ }
-    ensures answers { λ r. ⌜ ((x : TermsAt Mode.pattern (drop p (now (b .entry)))) (y : TermsAt Mode.pattern (drop q (now (b .entry)))) → r ≡ sequence fuel (x .terms) (y .terms)) ⌝ }
-    ensures keeps { λ _. ⌜ Searched (now (b .entry)) lent top (now (room .entry)) (now (room .exit)) ⌝ }
-{
-    if deep == 0 {
-        if top < lent.frames {
-            return search(b, p, q, fuel, top, room, lent);
-        }
-    }
-    let h = heads(b, p, q, fuel, deep, top, room, lent);
-    match h {
-        Leading::Ended(found) => found,
-        Leading::Split(o) => {
-            let found = absorbing_split(
-                b,
-                o.rest,
-                o.other,
-                o.fuel,
-                shallower(deep),
-                top,
-                room,
-                lent,
-            );
-            let heads = o.heads;
-            let verdict = found.verdict;
-            behind_heads(heads, verdict, found.fuel)
-        }
-    }
-}
-
-// A split that is not remembered becomes an entry of the stack; where none is left it is searched by calls, and so the search
-// always goes on.
-fn settle(b: &[u8], h: Leading, top: usize, room: &mut [u32], lent: Room) -> Leading
+// A split that is not remembered is searched by calls while these may nest deeper, then becomes an entry of the stack; where
+// none is left it is searched by calls again, and so the search always goes on.
+fn settle(b: &[u8], h: Leading, deep: u32, top: usize, room: &mut [u32], lent: Room) -> Leading
     requires { ⌜ Sound (now b) h × Lends (now b) (now room) lent top ⌝ }
     ensures leads { λ r. ⌜ ((fuel from : ℕ) (x y : Terms) → Leads (now (b .entry)) fuel from x y h → Settled (now (b .entry)) (now (room .exit)) lent top fuel from x y r) ⌝ }
     ensures keeps { λ _. ⌜ Searched (now (b .entry)) lent top (now (room .entry)) (now (room .exit)) ⌝ }
@@ -327,11 +282,14 @@ fn settle(b: &[u8], h: Leading, top: usize, room: &mut [u32], lent: Room) -> Lea
                 let verdict = told.verdict;
                 return Leading::Ended(behind_heads(heads, verdict, told.fuel));
             }
-            if top < lent.frames {
-                push(o.rest, o.other, o.fuel, heads, top, room, lent);
-                return Leading::Split(o);
+            if deep == 0 {
+                if top < lent.frames {
+                    push(o.rest, o.other, o.fuel, heads, top, room, lent);
+                    return Leading::Split(o);
+                }
             }
-            let found = absorbing_split(b, o.rest, o.other, o.fuel, 0, top, room, lent);
+            let less = shallower(deep);
+            let found = absorbing_split(b, o.rest, o.other, o.fuel, less, top, room, lent);
             let verdict = found.verdict;
             Leading::Ended(behind_heads(heads, verdict, found.fuel))
         }
@@ -349,33 +307,35 @@ fn is_out(v: Verdict, fuel: u32) -> bool
     }
 }
 
-// The same as `sequence`, with the splits from `base` on in the room.
-fn search(
+// Two patterns, from p and q on: the pair in turn, behind the splits that the stack has from `top` on. One function for both
+// ways of searching, so that a bracket level takes one frame.
+pub fn sequence(
     b: &[u8],
     p: usize,
     q: usize,
     fuel: u32,
-    base: usize,
+    deep: u32,
+    top: usize,
     room: &mut [u32],
     lent: Room,
 ) -> Found
-    requires { ⌜ TermsAt Mode.pattern (drop p (now b)) × TermsAt Mode.pattern (drop q (now b)) × Lends (now b) (now room) lent base × (fuel ≤ 4096) ⌝ }
+    requires { ⌜ TermsAt Mode.pattern (drop p (now b)) × TermsAt Mode.pattern (drop q (now b)) × Lends (now b) (now room) lent top × (fuel ≤ 4096) ⌝ }
     ensures answers { λ r. ⌜ ((x : TermsAt Mode.pattern (drop p (now (b .entry)))) (y : TermsAt Mode.pattern (drop q (now (b .entry)))) → r ≡ sequence fuel (x .terms) (y .terms)) ⌝ }
-    ensures keeps { λ _. ⌜ Searched (now (b .entry)) lent base (now (room .entry)) (now (room .exit)) ⌝ }
+    ensures keeps { λ _. ⌜ Searched (now (b .entry)) lent top (now (room .entry)) (now (room .exit)) ⌝ }
 {
     let mut i = p;
     let mut j = q;
     let mut left = fuel;
-    let mut top = base;
+    let mut height = top;
     loop {
-        let h = heads(b, i, j, left, 0, top, room, lent);
-        let s = settle(b, h, top, room, lent);
+        let h = heads(b, i, j, left, deep, height, room, lent);
+        let s = settle(b, h, deep, height, room, lent);
         match s {
             Leading::Split(o) => {
                 i = o.rest;
                 j = o.other;
                 left = o.fuel;
-                top += 1;
+                height += 1;
             }
             Leading::Ended(found) => {
                 left = found.fuel;
@@ -383,16 +343,16 @@ fn search(
                 if is_out(verdict, left) {
                     return found;
                 }
-                let up = unwind(b, verdict, left, base, top, room, lent);
-                top = up.top;
-                if top == base {
+                let up = unwind(b, verdict, left, top, height, room, lent);
+                height = up.top;
+                if height == top {
                     let last = up.verdict;
                     return Found {
                         verdict: last,
                         fuel: left,
                     };
                 }
-                let split = room[top - 1];
+                let split = room[height - 1];
                 i = rest_of(split);
                 j = other_of(split);
             }

@@ -7,28 +7,25 @@ use borrow.Fn.PlainCycle.{Measures, is, falls, and}
 use Rattle.overlap.specs.declared.search.Leading.{Leading}
 use Rattle.overlap.proofs.search.absorbing_split.Reads as absorbing-split
 use Rattle.overlap.proofs.search.absorbing_split.Kinds as absorbing-split-kinds
-use Rattle.overlap.proofs.search.+absorbing_split+heads+overlap_of_terms+pair_overlap+search+sequence+settle+takes.Lts-absorbing_split as absorbing-split-lts
+use Rattle.overlap.proofs.search.+absorbing_split+heads+overlap_of_terms+pair_overlap+sequence+settle+takes.Lts-absorbing_split as absorbing-split-lts
 use Rattle.overlap.proofs.search.heads.Reads as heads
 use Rattle.overlap.proofs.search.heads.Kinds as heads-kinds
-use Rattle.overlap.proofs.search.+absorbing_split+heads+overlap_of_terms+pair_overlap+search+sequence+settle+takes.Lts-heads as heads-lts
+use Rattle.overlap.proofs.search.+absorbing_split+heads+overlap_of_terms+pair_overlap+sequence+settle+takes.Lts-heads as heads-lts
 use Rattle.overlap.proofs.search.overlap_of_terms.Reads as overlap-of-terms
 use Rattle.overlap.proofs.search.overlap_of_terms.Kinds as overlap-of-terms-kinds
-use Rattle.overlap.proofs.search.+absorbing_split+heads+overlap_of_terms+pair_overlap+search+sequence+settle+takes.Lts-overlap_of_terms as overlap-of-terms-lts
+use Rattle.overlap.proofs.search.+absorbing_split+heads+overlap_of_terms+pair_overlap+sequence+settle+takes.Lts-overlap_of_terms as overlap-of-terms-lts
 use Rattle.overlap.proofs.search.pair_overlap.Reads as pair-overlap
 use Rattle.overlap.proofs.search.pair_overlap.Kinds as pair-overlap-kinds
-use Rattle.overlap.proofs.search.+absorbing_split+heads+overlap_of_terms+pair_overlap+search+sequence+settle+takes.Lts-pair_overlap as pair-overlap-lts
-use Rattle.overlap.proofs.search.search.Reads as search′
-use Rattle.overlap.proofs.search.search.Kinds as search-kinds
-use Rattle.overlap.proofs.search.+absorbing_split+heads+overlap_of_terms+pair_overlap+search+sequence+settle+takes.Lts-search as search-lts
+use Rattle.overlap.proofs.search.+absorbing_split+heads+overlap_of_terms+pair_overlap+sequence+settle+takes.Lts-pair_overlap as pair-overlap-lts
 use Rattle.overlap.proofs.search.sequence.Reads as sequence
 use Rattle.overlap.proofs.search.sequence.Kinds as sequence-kinds
-use Rattle.overlap.proofs.search.+absorbing_split+heads+overlap_of_terms+pair_overlap+search+sequence+settle+takes.Lts-sequence as sequence-lts
+use Rattle.overlap.proofs.search.+absorbing_split+heads+overlap_of_terms+pair_overlap+sequence+settle+takes.Lts-sequence as sequence-lts
 use Rattle.overlap.proofs.search.settle.Reads as settle
 use Rattle.overlap.proofs.search.settle.Kinds as settle-kinds
-use Rattle.overlap.proofs.search.+absorbing_split+heads+overlap_of_terms+pair_overlap+search+sequence+settle+takes.Lts-settle as settle-lts
+use Rattle.overlap.proofs.search.+absorbing_split+heads+overlap_of_terms+pair_overlap+sequence+settle+takes.Lts-settle as settle-lts
 use Rattle.overlap.proofs.search.takes.Reads as takes
 use Rattle.overlap.proofs.search.takes.Kinds as takes-kinds
-use Rattle.overlap.proofs.search.+absorbing_split+heads+overlap_of_terms+pair_overlap+search+sequence+settle+takes.Lts-takes as takes-lts
+use Rattle.overlap.proofs.search.+absorbing_split+heads+overlap_of_terms+pair_overlap+sequence+settle+takes.Lts-takes as takes-lts
 use Rattle.image.proofs.part.term_len.Reads as term-len-reads
 use Rattle.overlap.proofs.behind_heads.Reads as behind-heads-reads
 use Rattle.overlap.proofs.is_disjoint.Reads as is-disjoint-reads
@@ -71,9 +68,6 @@ abbrev pub μ-overlap-of-terms : Measures 2 overlap-of-terms-kinds.ps ℕ
 abbrev pub μ-pair-overlap : Measures 2 pair-overlap-kinds.ps ℕ
 μ-pair-overlap κs a = 16 * behindPlaces (a .0 .now) (a .1 .0) (a .1 .1 .0) + 8
 
-abbrev pub μ-search : Measures 2 search-kinds.ps ℕ
-μ-search κs a = 16 * behindPlaces (a .0 .now) (a .1 .0) (a .1 .1 .0) + 6
-
 abbrev pub μ-sequence : Measures 2 sequence-kinds.ps ℕ
 μ-sequence κs a = 16 * behindPlaces (a .0 .now) (a .1 .0) (a .1 .1 .0) + 7
 
@@ -107,12 +101,6 @@ pair-overlap-at t = and 2 pair-overlap-kinds.ps (is 2 pair-overlap-kinds.ps μ-p
 abbrev pub pair-overlap-below : ℕ → In 2 pair-overlap-kinds.ps
 pair-overlap-below t = and 2 pair-overlap-kinds.ps (falls 2 pair-overlap-kinds.ps _<_ μ-pair-overlap t) pair-overlap.Pre
 
-abbrev pub search-at : ℕ → In 2 search-kinds.ps
-search-at t = and 2 search-kinds.ps (is 2 search-kinds.ps μ-search t) search′.Pre
-
-abbrev pub search-below : ℕ → In 2 search-kinds.ps
-search-below t = and 2 search-kinds.ps (falls 2 search-kinds.ps _<_ μ-search t) search′.Pre
-
 abbrev pub sequence-at : ℕ → In 2 sequence-kinds.ps
 sequence-at t = and 2 sequence-kinds.ps (is 2 sequence-kinds.ps μ-sequence t) sequence.Pre
 
@@ -134,7 +122,7 @@ takes-below t = and 2 takes-kinds.ps (falls 2 takes-kinds.ps _<_ μ-takes t) tak
 -- What each member asks of those that it calls, and learns from them.
 abbrev pub absorbing-split-claims : ℕ → absorbing-split-lts.Claims
 absorbing-split-claims t =
-    (key-of-reads.Asked, key-of-reads.Learnt, recall-reads.Asked, recall-reads.Learnt, recalled-reads.Asked, recalled-reads.Learnt, takes-below t, takes.Post, code-of-reads.Asked, code-of-reads.Learnt, note-reads.Asked, note-reads.Learnt)
+    (takes-below t, takes.Post, code-of-reads.Asked, code-of-reads.Learnt, key-of-reads.Asked, key-of-reads.Learnt, note-reads.Asked, note-reads.Learnt)
 
 abbrev pub heads-claims : ℕ → heads-lts.Claims
 heads-claims t =
@@ -148,17 +136,13 @@ abbrev pub pair-overlap-claims : ℕ → pair-overlap-lts.Claims
 pair-overlap-claims t =
     (key-of-reads.Asked, key-of-reads.Learnt, recall-reads.Asked, recall-reads.Learnt, verdict-of-reads.Asked, verdict-of-reads.Learnt, sequence-below t, sequence.Post, code-of-reads.Asked, code-of-reads.Learnt, note-reads.Asked, note-reads.Learnt)
 
-abbrev pub search-claims : ℕ → search-lts.Claims
-search-claims t =
-    (heads-below t, heads.Post, settle-below t, settle.Post, is-out-reads.Asked, is-out-reads.Learnt, unwind-reads.Asked, unwind-reads.Learnt, rest-of-reads.Asked, rest-of-reads.Learnt, other-of-reads.Asked, other-of-reads.Learnt)
-
 abbrev pub sequence-claims : ℕ → sequence-lts.Claims
 sequence-claims t =
-    (search-below t, search′.Post, heads-below t, heads.Post, shallower-reads.Asked, shallower-reads.Learnt, absorbing-split-below t, absorbing-split.Post, behind-heads-reads.Asked, behind-heads-reads.Learnt)
+    (heads-below t, heads.Post, settle-below t, settle.Post, is-out-reads.Asked, is-out-reads.Learnt, unwind-reads.Asked, unwind-reads.Learnt, rest-of-reads.Asked, rest-of-reads.Learnt, other-of-reads.Asked, other-of-reads.Learnt)
 
 abbrev pub settle-claims : ℕ → settle-lts.Claims
 settle-claims t =
-    (key-of-reads.Asked, key-of-reads.Learnt, recall-reads.Asked, recall-reads.Learnt, recalled-reads.Asked, recalled-reads.Learnt, behind-heads-reads.Asked, behind-heads-reads.Learnt, push-reads.Asked, push-reads.Learnt, absorbing-split-below t, absorbing-split.Post)
+    (key-of-reads.Asked, key-of-reads.Learnt, recall-reads.Asked, recall-reads.Learnt, recalled-reads.Asked, recalled-reads.Learnt, behind-heads-reads.Asked, behind-heads-reads.Learnt, push-reads.Asked, push-reads.Learnt, shallower-reads.Asked, shallower-reads.Learnt, absorbing-split-below t, absorbing-split.Post)
 
 abbrev pub takes-claims : ℕ → takes-lts.Claims
 takes-claims t =

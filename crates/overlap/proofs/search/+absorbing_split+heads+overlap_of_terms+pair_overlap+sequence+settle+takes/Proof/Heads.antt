@@ -16,8 +16,8 @@ use Rattle.overlap.proofs.Readings.{part-length, inside, at-part, place
 use Rattle.overlap.proofs.Memory.{lends-less, searched-same, searched-then, searched-less, searched-lends}
 use Rattle.overlap.proofs.Turns.{Reached, reached-out, first-closed, second-closed, first-opens, second-opens, heads-apart, heads-passed}
 use Rattle.overlap.proofs.search.heads.Reads as heads
-use Rattle.overlap.proofs.search.+absorbing_split+heads+overlap_of_terms+pair_overlap+search+sequence+settle+takes.Lts-heads as lts
-use Rattle.overlap.proofs.search.+absorbing_split+heads+overlap_of_terms+pair_overlap+search+sequence+settle+takes.Proof.Common.{heads-at as at, heads-claims as claims}
+use Rattle.overlap.proofs.search.+absorbing_split+heads+overlap_of_terms+pair_overlap+sequence+settle+takes.Lts-heads as lts
+use Rattle.overlap.proofs.search.+absorbing_split+heads+overlap_of_terms+pair_overlap+sequence+settle+takes.Proof.Common.{heads-at as at, heads-claims as claims}
 
 abbrev pub Inv-loop : lts.InvT-loop
 Inv-loop b p q fuel deep top room₀ lent i₀ j₀ left₀ heads₀ room i j left heads =

@@ -14,8 +14,8 @@ use Rattle.overlap.proofs.Readings.{inside, next-later}
 use Rattle.overlap.proofs.Memory.{lends-less, searched-same, searched-then, searched-less, searched-lends}
 use Rattle.overlap.proofs.Turns.{Splitting, splitting-first, split-meets, split-ends, split-goes-on}
 use Rattle.overlap.proofs.search.takes.Reads as takes
-use Rattle.overlap.proofs.search.+absorbing_split+heads+overlap_of_terms+pair_overlap+search+sequence+settle+takes.Lts-takes as lts
-use Rattle.overlap.proofs.search.+absorbing_split+heads+overlap_of_terms+pair_overlap+search+sequence+settle+takes.Proof.Common.{takes-at as at, takes-claims as claims}
+use Rattle.overlap.proofs.search.+absorbing_split+heads+overlap_of_terms+pair_overlap+sequence+settle+takes.Lts-takes as lts
+use Rattle.overlap.proofs.search.+absorbing_split+heads+overlap_of_terms+pair_overlap+sequence+settle+takes.Proof.Common.{takes-at as at, takes-claims as claims}
 
 abbrev pub Inv-loop : lts.InvT-loop
 Inv-loop b rest other fuel deep top room₀ lent i₀ left₀ verdict₀ room i left verdict =

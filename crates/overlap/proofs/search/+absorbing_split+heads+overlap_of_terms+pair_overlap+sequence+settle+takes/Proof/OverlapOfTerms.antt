@@ -9,8 +9,8 @@ use Rattle.overlap.proofs.Readings.{mark-in}
 use Rattle.overlap.proofs.Heads.{head-inside, inner-in, symbol-in, bracket-at, literal-at, two-brackets, first-bracket-low, first-bracket-high, second-bracket-low, second-bracket-high, first-variable, second-variable, two-literals}
 use Rattle.overlap.proofs.Memory.{searched-same}
 use Rattle.overlap.proofs.search.overlap_of_terms.Reads as overlap-of-terms
-use Rattle.overlap.proofs.search.+absorbing_split+heads+overlap_of_terms+pair_overlap+search+sequence+settle+takes.Lts-overlap_of_terms as lts
-use Rattle.overlap.proofs.search.+absorbing_split+heads+overlap_of_terms+pair_overlap+search+sequence+settle+takes.Proof.Common.{overlap-of-terms-at as at, overlap-of-terms-claims as claims}
+use Rattle.overlap.proofs.search.+absorbing_split+heads+overlap_of_terms+pair_overlap+sequence+settle+takes.Lts-overlap_of_terms as lts
+use Rattle.overlap.proofs.search.+absorbing_split+heads+overlap_of_terms+pair_overlap+sequence+settle+takes.Proof.Common.{overlap-of-terms-at as at, overlap-of-terms-claims as claims}
 
 module _ (t : ℕ) where
   abbrev Start : Type 0

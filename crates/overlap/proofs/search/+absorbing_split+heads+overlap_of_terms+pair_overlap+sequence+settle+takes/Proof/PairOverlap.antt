@@ -12,8 +12,8 @@ use Rattle.overlap.specs.Memory.{codeOf, PairTold}
 use Rattle.overlap.proofs.Readings.{inside}
 use Rattle.overlap.proofs.Memory.{told, key-nonzero, pair-told-from, pair-noted, searched-same, searched-then, searched-less}
 use Rattle.overlap.proofs.search.pair_overlap.Reads as pair-overlap
-use Rattle.overlap.proofs.search.+absorbing_split+heads+overlap_of_terms+pair_overlap+search+sequence+settle+takes.Lts-pair_overlap as lts
-use Rattle.overlap.proofs.search.+absorbing_split+heads+overlap_of_terms+pair_overlap+search+sequence+settle+takes.Proof.Common.{pair-overlap-at as at, pair-overlap-claims as claims}
+use Rattle.overlap.proofs.search.+absorbing_split+heads+overlap_of_terms+pair_overlap+sequence+settle+takes.Lts-pair_overlap as lts
+use Rattle.overlap.proofs.search.+absorbing_split+heads+overlap_of_terms+pair_overlap+sequence+settle+takes.Proof.Common.{pair-overlap-at as at, pair-overlap-claims as claims}
 
 module _ (t : ℕ) where
   abbrev Start : Type 0

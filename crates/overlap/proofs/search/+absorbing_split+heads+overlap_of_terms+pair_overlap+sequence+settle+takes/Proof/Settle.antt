@@ -11,8 +11,8 @@ use Rattle.overlap.specs.Stack.{Leads, OpensAt, Sound}
 use Rattle.overlap.proofs.Readings.{inside}
 use Rattle.overlap.proofs.Memory.{told, key-nonzero, searched-same}
 use Rattle.overlap.proofs.search.settle.Reads as settle
-use Rattle.overlap.proofs.search.+absorbing_split+heads+overlap_of_terms+pair_overlap+search+sequence+settle+takes.Lts-settle as lts
-use Rattle.overlap.proofs.search.+absorbing_split+heads+overlap_of_terms+pair_overlap+search+sequence+settle+takes.Proof.Common.{settling, settle-at as at, settle-claims as claims}
+use Rattle.overlap.proofs.search.+absorbing_split+heads+overlap_of_terms+pair_overlap+sequence+settle+takes.Lts-settle as lts
+use Rattle.overlap.proofs.search.+absorbing_split+heads+overlap_of_terms+pair_overlap+sequence+settle+takes.Proof.Common.{settling, settle-at as at, settle-claims as claims}
 
 module _ (t : ℕ) where
   pub enum-known-h : lts.Need-enum-known-h (claims t) (at t) settle.Post
@@ -84,25 +84,28 @@ module _ (t : ℕ) where
   -- It becomes an entry.
   pub push-requires : lts.Need-push-requires (claims t) (at t) settle.Post
   push-requires c κs =
-      let d = c .before .before .before .before .before .before .before .before .before .before in
+      let d = c .before .before .before .before .before .before .before .before .before .before .before in
       let o = opens-at d in
-      (low-rest d, low-other d, o .few, o .going, c .before .if2 .taken, start-of d .pre .1 .1 .remembers .fits)
+      (low-rest d, low-other d, o .few, o .going, c .before .if3 .taken, start-of d .pre .1 .1 .remembers .fits)
 
   pub same-length-2 : lts.Need-same-length-2 (claims t) (at t) settle.Post
-  same-length-2 c = let s = start-of (c .before .before .before .before .before .before .before .before .before .before .before .before .before) in c .before .before .push .ensures .1 (s .args .b .now) (s .pre .1 .1 .remembers) .length
+  same-length-2 c = let s = start-of (c .before .before .before .before .before .before .before .before .before .before .before .before .before .before) in c .before .before .push .ensures .1 (s .args .b .now) (s .pre .1 .1 .remembers) .length
 
   pub returns-2 : lts.Need-returns-2 (claims t) (at t) settle.Post
   returns-2 c =
-      let d = c .before .before .before .before .before .before .before .before .before .before .before .before .before in
+      let d = c .before .before .before .before .before .before .before .before .before .before .before .before .before .before in
       let s = start-of d in
       let e = c .before .before .push .ensures in (
         λ fuel from x y l. record {
           opens = subst (λ (h : Leading). Leads (s .args .b .now) fuel from x y h) (is-split d) l;
-          room = c .before .before .before .before .if2 .taken;
+          room = c .before .before .before .before .if3 .taken;
           entered = e .0;
         },
         e .1 (s .args .b .now) (s .pre .1 .1 .remembers),
       )
+
+  pub shallower-requires : lts.Need-shallower-requires (claims t) (at t) settle.Post
+  shallower-requires c κs = tt
 
   -- It is searched by calls.
   pub absorbing-split-requires : lts.Need-absorbing-split-requires (claims t) (at t) settle.Post

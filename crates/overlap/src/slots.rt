@@ -14,13 +14,18 @@ pub fn key_of(p: usize, q: usize) -> u32
     1 + 32768 * (p as u32) + q as u32
 }
 
-// The slot of a key: places that are near each other get different ones.
+// The slot of a key, by the high bits of a product that spreads keys which differ little; a remainder would have many keys of
+// one search share few slots.
 fn slot_of(key: u32, slots: usize) -> usize
     requires { ⌜ 0 < slots ⌝ }
     ensures { λ r. ⌜ r < slots ⌝ }
 {
     let k = key as usize;
-    (k / 32768 * 29 + k % 32768) % slots
+    if slots < 4294967296 {
+        let mixed = k * 3266489917 % 4294967296;
+        return mixed * slots / 4294967296;
+    }
+    k
 }
 
 // The value under a key, 0 if there is none.

@@ -265,14 +265,21 @@ fn shallower(deep: u32) -> u32 {
 }
 
 // A split that is not remembered is searched by calls while these may nest deeper, then becomes an entry of the stack; where
-// none is left it is searched by calls again, and so the search always goes on.
+// none is left it is searched by calls again, and so the search always goes on. An answer is passed on field by field, since
+// a struct that is copied whole stays in memory.
 fn settle(b: &[u8], h: Leading, deep: u32, top: usize, room: &mut [u32], lent: Room) -> Leading
     requires { ⌜ Sound (now b) h × Lends (now b) (now room) lent top ⌝ }
     ensures leads { λ r. ⌜ ((fuel from : ℕ) (x y : Terms) → Leads (now (b .entry)) fuel from x y h → Settled (now (b .entry)) (now (room .exit)) lent top fuel from x y r) ⌝ }
     ensures keeps { λ _. ⌜ Searched (now (b .entry)) lent top (now (room .entry)) (now (room .exit)) ⌝ }
 {
     match h {
-        Leading::Ended(found) => Leading::Ended(found),
+        Leading::Ended(found) => {
+            let verdict = found.verdict;
+            Leading::Ended(Found {
+                verdict,
+                fuel: found.fuel,
+            })
+        }
         Leading::Split(o) => {
             let heads = o.heads;
             let from = lent.frames + lent.begun + 4 * lent.slots;
@@ -341,7 +348,10 @@ pub fn sequence(
                 left = found.fuel;
                 let verdict = found.verdict;
                 if is_out(verdict, left) {
-                    return found;
+                    return Found {
+                        verdict,
+                        fuel: left,
+                    };
                 }
                 let up = unwind(b, verdict, left, top, height, room, lent);
                 height = up.top;

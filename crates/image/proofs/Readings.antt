@@ -135,8 +135,48 @@ close-tail (bracket s t r) k e = absurd (omega arith)
 close-tail (call s n t r) k e = absurd (omega arith)
 close-tail (block s t b r) k e = absurd (omega arith)
 
+-- A flat term: a character is 13 bytes long, any other 10 and its name.
+flat-code : (t : Terms) (k : List ℕ) → getD (putTerms t k) 0 0 ≡ 1 → Passes (putTerms t k) 13 (putTerms (tail t) k)
+unfolding putTerms putSymbol kindMark tail
+flat-code nil k e = absurd (omega arith)
+flat-code (symbol s (character c) r) k e = record { fits = omega (arith, span-length s (put32 c (putTerms r k)), code-length c (putTerms r k)); left = code-passed s c (putTerms r k) }
+flat-code (symbol s (identifier n) r) k e = absurd (omega arith)
+flat-code (symbol s (number n) r) k e = absurd (omega arith)
+flat-code (variable s s-kind n r) k e = absurd (omega arith)
+flat-code (variable s t-kind n r) k e = absurd (omega arith)
+flat-code (variable s e-kind n r) k e = absurd (omega arith)
+flat-code (bracket s t r) k e = absurd (omega arith)
+flat-code (call s n t r) k e = absurd (omega arith)
+flat-code (block s t b r) k e = absurd (omega arith)
+
+flat-one : (v : ℕ) (p : Span) (n : Name) (k : List ℕ) → Passes (v ∷ putSpan p (putName n k)) (10 + getD (v ∷ putSpan p (putName n k)) 9 0) k
+flat-one v p n k =
+    let z : 10 + getD (putSpan p (putName n k)) 8 0 ≡ suc (9 + getD (putSpan p (putName n k)) 8 0) = omega arith in
+    rw z (record { fits = omega (arith, name-room p n k); left = drop-name p n k })
+
+flat-name : (t : Terms) (k : List ℕ) → (getD (putTerms t k) 0 0 ≡ 1 → ⊥) → getD (putTerms t k) 0 0 < 7 → Passes (putTerms t k) (10 + getD (putTerms t k) 9 0) (putTerms (tail t) k)
+unfolding putTerms putSymbol kindMark tail
+flat-name nil k h l = absurd (omega arith)
+flat-name (symbol s (character c) r) k h l = absurd (h refl)
+flat-name (symbol s (identifier n) r) k h l = flat-one 2 s n (putTerms r k)
+flat-name (symbol s (number n) r) k h l = flat-one 3 s n (putTerms r k)
+flat-name (variable s s-kind n r) k h l = flat-one 4 s n (putTerms r k)
+flat-name (variable s t-kind n r) k h l = flat-one 5 s n (putTerms r k)
+flat-name (variable s e-kind n r) k h l = flat-one 6 s n (putTerms r k)
+flat-name (bracket s t r) k h l = absurd (omega arith)
+flat-name (call s n t r) k h l = absurd (omega arith)
+flat-name (block s t b r) k h l = absurd (omega arith)
+
 -- The same of a part that holds terms.
 module _ (s : List ℕ) where
+  pub term-code : getD s 0 0 ≡ 1 → (m : Mode) (t : TermsAt m s) → Passes s 13 (putTerms (tail (t .terms)) (t .rest))
+  term-code e m t = subst (λ (l : List ℕ). Passes l 13 (putTerms (tail (t .terms)) (t .rest))) (sym (t .is)) (flat-code (t .terms) (t .rest) (sym (first-byte (t .is)) ∙ e))
+
+  pub term-name : (getD s 0 0 ≡ 1 → ⊥) → getD s 0 0 < 7 → (m : Mode) (t : TermsAt m s) → Passes s (10 + getD s 9 0) (putTerms (tail (t .terms)) (t .rest))
+  term-name h l m t =
+      subst (λ (b : List ℕ). Passes b (10 + getD b 9 0) (putTerms (tail (t .terms)) (t .rest))) (sym (t .is))
+      (flat-name (t .terms) (t .rest) (λ q. h (first-byte (t .is) ∙ q)) (omega (arith, first-byte (t .is))))
+
   pub term-room : TermsAt Mode.result s → suc (fields (getD s 0 0) (drop 1 s)) ≤ length s
   term-room t = subst (λ (l : List ℕ). suc (fields (getD l 0 0) (drop 1 l)) ≤ length l) (sym (t .is)) (first-room (t .terms) (t .rest))
 

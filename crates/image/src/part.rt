@@ -93,6 +93,12 @@ pub fn term_len(s: &[u8]) -> usize
     ensures { λ r. ⌜ ((m : Mode) (t : TermsAt m (now (s .entry))) → Passes (now (s .entry)) r (putTerms (tail (t .terms)) (t .rest))) ⌝ }
 {
     let m = s[0];
+    if m == 1 {
+        return 13;
+    }
+    if m < 7 {
+        return 10 + s[9] as usize;
+    }
     if m == 15 {
         return 0;
     }

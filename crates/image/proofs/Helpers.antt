@@ -1,6 +1,7 @@
 -- The reader's small helpers: their cases.
 use Prim.Native.Nat.{ℕ, zero, suc, _+_, _*_, _-_, _/_, _%_, _≤_, _<_}
 use native.Mathlib.Omega.{arith}
+use native.Mathlib.Nat.{add-zero}
 use mathlib.Core.Path.{_≡_, refl, sym, ap, subst, _∙_}
 use mathlib.Core.List.{List, [], _∷_}
 use lib.ListN.{length, getD}
@@ -8,10 +9,12 @@ use lib.Dec.{eqb}
 use borrow.Author.Tests.{eq-eqb, ne-eqb}
 use Rattle.image.specs.Limits.{pick, Mode}
 use Rattle.image.specs.Automaton.{Stack}
-use Rattle.image.specs.Steps.{frame, DoesAt, Does, bottom, bottomAfter, TermsKind, kindOn, frameOn}
-use Rattle.image.specs.Tally.{unpacked, topOf, TurnDoes, functionOne, sentenceOne, bottomNext, firstNext}
+use Rattle.image.specs.Steps.{refusal, frame, DoesAt, Does, bottom, bottomAfter, TermsKind, kindOn, frameOn}
+use Rattle.image.specs.Tally.{counts, unpacked, topOf, TurnDoes, functionOne, sentenceOne, bottomNext, firstNext, advancedBy, tallyEnd}
 use Rattle.image.specs.declared.reader.Frame.{Frame}
 use Rattle.image.specs.declared.reader.Step.{Step}
+use Rattle.image.specs.declared.reader.Tally.{Tally}
+use Rattle.image.specs.declared.reader.Progress.{Progress}
 
 pub function-one-yes : (n m : ℕ) → n ≡ 0 → m ≡ 18 → 1 ≡ functionOne n m
 function-one-yes n m h q = rw (h, q)
@@ -65,6 +68,27 @@ first-next-later n m (suc k) left f h q = rw h
 pub first-next-in : (n m k left f : ℕ) → (n ≡ 0 → ⊥) → f ≡ firstNext n m k left f
 first-next-in zero m k left f h = absurd (h refl)
 first-next-in (suc n) m k left f h = refl
+
+abbrev progress : ℕ → ℕ → ℕ → ℕ → Progress
+progress k y z f = record { bottom = k; functions = y; sentences = z; first = f }
+
+pub advanced-out : (c : Progress) (n : ℕ) (e : Frame) (m left : ℕ) {k y f : ℕ} → n ≡ 0 → k ≡ bottomNext n m (c .bottom) → y ≡ functionOne n m → f ≡ firstNext n m (c .bottom) left (c .first)
+    → progress k (c .functions + y) (c .sentences) f ≡ advancedBy c n e m left
+advanced-out c n e m left h p q r = rw (p, q, r, h, add-zero (c .sentences))
+
+pub advanced-in : (c : Progress) (n : ℕ) (e : Frame) (m left : ℕ) {z : ℕ} → (n ≡ 0 → ⊥) → z ≡ sentenceOne n e m → progress (c .bottom) (c .functions) (c .sentences + z) (c .first) ≡ advancedBy c n e m left
+advanced-in c zero e m left h q = absurd (h refl)
+advanced-in c (suc n) e m left h q = rw (q, add-zero (c .functions))
+
+pub tally-none : (n : ℕ) (c : Progress) (l : ℕ) → n ≡ 0 → c .bottom ≡ 0 → Tally.Counted (counts (c .functions) (c .sentences) 0) ≡ tallyEnd n c l
+tally-none n c l h q = rw (h, eq-eqb (c .bottom) 0 q)
+
+pub tally-some : (n : ℕ) (c : Progress) (l : ℕ) → n ≡ 0 → (c .bottom ≡ 0 → ⊥) → Tally.Counted (counts (c .functions) (c .sentences) (c .first)) ≡ tallyEnd n c l
+tally-some n c l h q = rw (h, ne-eqb (c .bottom) 0 q)
+
+pub tally-cut : (n : ℕ) (c : Progress) (l : ℕ) → (n ≡ 0 → ⊥) → Tally.Refused (refusal 5 l) ≡ tallyEnd n c l
+tally-cut zero c l h = absurd (h refl)
+tally-cut (suc n) c l h = refl
 
 pub packs : (k a : ℕ) → a < 256 → unpacked (k * 256 + a) ≡ frame k a
 packs k a h =

@@ -9,6 +9,7 @@ pub mod Turns
 pub mod Helpers
 pub mod Walk
 pub mod Loop
+pub mod Flat
 pub mod Answers
 pub mod Tests
 pub mod Skip

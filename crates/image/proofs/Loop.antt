@@ -8,22 +8,24 @@ use mathlib.Core.Bool.{Bool, true, false}
 use mathlib.Core.List.{List, [], _∷_}
 use lib.ListN.{length, getD, set, take, drop, length-set, drop-of-length-le}
 use lib.Seq.{drop-cons, getD-set-same, getD-set-other}
-use lib.Dec.{eqb}
-use borrow.Author.Tests.{eq-eqb, ne-eqb}
+use lib.Dec.{leb, eqb}
+use borrow.Author.Tests.{eq-eqb, ne-eqb, eqb-true, eqb-false, leb-true, leb-false}
 use Rattle.image.specs.Syntax.{Program}
 use Rattle.image.specs.Encode.{putFunctions, ownSentenceCount}
 use Rattle.image.specs.Limits.{pick, Mode}
 use Rattle.image.specs.Automaton.{Stack, Values, Turn, turn, Read, made, atEnd, follow, run}
 use Rattle.image.specs.Steps.{refusal, frame, kindOn, frameOn, frames, pushed, Refuses, Goes, DoesAt, Does, bottom, bottomAfter}
-use Rattle.image.specs.Tally.{counts, tallyOf, unpacked, stackOf, topOf, Stored, TurnDoes, functionOne, sentenceOne, bottomNext, firstNext}
+use Rattle.image.specs.Tally.{counts, tallyOf, unpacked, stackOf, topOf, Stored, TurnDoes, functionOne, sentenceOne, bottomNext, firstNext, advancedBy, tallyEnd, tallyIn, Stops}
 use Rattle.image.specs.declared.reader.Refusal.{Refusal}
 use Rattle.image.specs.declared.reader.Frame.{Frame}
 use Rattle.image.specs.declared.reader.Push.{Push}
 use Rattle.image.specs.declared.reader.Step.{Step}
 use Rattle.image.specs.declared.reader.Tally.{Tally}
+use Rattle.image.specs.declared.reader.Progress.{Progress}
+use Rattle.image.specs.declared.reader.Spot.{Spot}
 use Rattle.image.proofs.Tests.{by-test}
 use Rattle.image.proofs.Numbers.{Bytes}
-use Rattle.image.proofs.Walk.{height, Fit, fit-height, fit-next, functionsAt, sentencesAt, firstAt, tallyIn, tally-start, tally-step}
+use Rattle.image.proofs.Walk.{height, Fit, fit-height, fit-next, functionsAt, sentencesAt, firstAt, tally-start, tally-step}
 
 -- A frame of any kind but sentences.
 pub data Other : Stack → Stack → Type 0 where
@@ -259,7 +261,7 @@ module _ (b s : List ℕ) (n k at nf ns f : ℕ) (st : State b s n k at nf ns f)
         is =
             rw e
             (st .is
-            ∙ (tally-step b at (stackOf k s n) (pushed g (stackOf (bottomNext n (getD b at 0) k) s (n - 1))) (g .to) (r .make) bytes ha (r .ahead) (r .within) (r .is) nf ns f
+            ∙ (tally-step b at (stackOf k s n) (pushed g (stackOf (bottomNext n (getD b at 0) k) s (n - 1))) (g .to) (r .make) ha (r .ahead) (r .within) (r .is) bytes nf ns f
             ∙ rw (stack-function k s n (getD b at 0), stack-sentence k s n (getD b at 0), stack-first k s n (getD b at 0) (length b - at) f)));
       }
 
@@ -310,24 +312,70 @@ pub bytes-of : (s : List ℕ) → ((i : ℕ) → getD s i 0 < 256) → Bytes s
 bytes-of [] h = tt
 bytes-of (b ∷ s) h = (h 0, bytes-of s (λ i. h (suc i)))
 
+-- The frames below one that fits do too.
+other-fit : {x y : Stack} → Other x y → Fit y → Fit x
+other-fit other-terms h = h .2
+other-fit other-conditions h = h .2
+other-fit other-name h = h .1
+other-fit other-names h = h .1
+other-fit other-code h = h .1
+other-fit other-visibility h = h .1
+other-fit other-counted h = h .1
+
+kind-fit : (k a : ℕ) (x : Stack) → Fit (kindOn k a x) → Fit x
+kind-fit k a x = kind-cases (λ y. Fit y → Fit x) k a x (λ e h. h .2) (λ y n o. other-fit o)
+
+stack-fit : (k : ℕ) (s : List ℕ) (n j : ℕ) → j ≤ n → Fit (stackOf k s n) → Fit (stackOf k s j)
+stack-fit k s zero j l h = let z : j ≡ 0 = omega arith in rw z h
+stack-fit k s (suc n) j l h = by (λ u. stack-fit k s n j u (kind-fit (getD s n 0 / 256) (getD s n 0 % 256) (stackOf k s n) h)) (leb j n) refl
+  where
+    by : (j ≤ n → Fit (stackOf k s j)) → (t : Bool) → leb j n ≡ t → Fit (stackOf k s j)
+    by f true e = f (leb-true j n e)
+    by f false e = let z : j ≡ suc n = omega (arith, leb-false j n e) in rw z h
+
 -- The same, from what the loop's calls ensure.
-module _ (b s : List ℕ) (n k at nf ns f : ℕ) (st : State b s n k at nf ns f) (ha : at < length b) (e : Frame) (r : Step) (he : e ≡ topOf s n) (hr : TurnDoes b at k n e r) where
+abbrev pub StateOf : List ℕ → List ℕ → ℕ → ℕ → Progress → Type 0
+StateOf b s n at c = State b s n (c .bottom) at (c .functions) (c .sentences) (c .first)
+
+module _ (b s : List ℕ) (top at : ℕ) (c : Progress) (st : StateOf b s top at c) where
+  pub loop-over : (t : Spot) → Stops b s top at t → StateOf b s (t .n) (t .at) c
+  loop-over t w =
+      record {
+        within = omega (arith, w .within);
+        room = st .room;
+        few = (omega (arith, w .ahead, st .few .0), omega (arith, w .ahead, st .few .1));
+        fit = stack-fit (c .bottom) s top (t .n) (w .few) (st .fit);
+        is = st .is ∙ w .is (c .bottom) .is (c .functions) (c .sentences) (c .first);
+      }
+
+  pub loop-end : length b ≤ at → {r : Tally} → r ≡ tallyEnd top c (length b) → r ≡ tallyOf (length b) (run Stack.body 0 b)
+  loop-end ha {r} e = e ∙ by top st
+    where
+      last : StateOf b s 0 at c → (t : Bool) → eqb (c .bottom) 0 ≡ t → Tally.Counted (counts (c .functions) (c .sentences) (pick t 0 (c .first))) ≡ tallyOf (length b) (run Stack.body 0 b)
+      last h true q = state-none b s 0 (c .bottom) at (c .functions) (c .sentences) (c .first) h ha refl (eqb-true _ _ q)
+      last h false q = state-some b s 0 (c .bottom) at (c .functions) (c .sentences) (c .first) h ha refl (eqb-false _ _ q)
+
+      by : (n : ℕ) → StateOf b s n at c → tallyEnd n c (length b) ≡ tallyOf (length b) (run Stack.body 0 b)
+      by zero h = last h (eqb (c .bottom) 0) refl
+      by (suc n) h = state-cut b s (suc n) (c .bottom) at (c .functions) (c .sentences) (c .first) h ha (λ z. omega arith)
+
+module _ (b s : List ℕ) (n at : ℕ) (c : Progress) (st : StateOf b s n at c) (ha : at < length b) (e : Frame) (r : Step) (he : e ≡ topOf s n) (hr : TurnDoes b at (c .bottom) n e r) where
   pub loop-bad : (w : Refusal) → r ≡ Step.Refuse w → Tally.Refused w ≡ tallyOf (length b) (run Stack.body 0 b)
-  loop-bad w q = state-bad b s n k at nf ns f st ha w (subst (TurnDoes b at k n (topOf s n)) q (subst (λ (d : Frame). TurnDoes b at k n d r) he hr))
+  loop-bad w q = state-bad b s n (c .bottom) at (c .functions) (c .sentences) (c .first) st ha w (subst (TurnDoes b at (c .bottom) n (topOf s n)) q (subst (λ (d : Frame). TurnDoes b at (c .bottom) n d r) he hr))
 
   module _ (g : Push) (q : r ≡ Step.Go g) where
-    went : TurnDoes b at k n (topOf s n) (Step.Go g)
-    went = subst (TurnDoes b at k n (topOf s n)) q (subst (λ (d : Frame). TurnDoes b at k n d r) he hr)
+    went : TurnDoes b at (c .bottom) n (topOf s n) (Step.Go g)
+    went = subst (TurnDoes b at (c .bottom) n (topOf s n)) q (subst (λ (d : Frame). TurnDoes b at (c .bottom) n d r) he hr)
 
     pub loop-on : (at < g .to) × (g .to ≤ length b) × (g .n ≤ 4)
-    loop-on = let w = turned-at b at k s n (Step.Go g) went in (w .ahead, w .within, w .few)
+    loop-on = let w = turned-at b at (c .bottom) s n (Step.Go g) went in (w .ahead, w .within, w .few)
 
-    pub loop-next : (t : List ℕ) (i j x y z k2 : ℕ) → Bytes b → i ≡ n - 1 → Stored s i g t → x ≡ firstNext n (getD b at 0) k (length b - at) f → y ≡ functionOne n (getD b at 0) → z ≡ sentenceOne n e (getD b at 0) → k2 ≡ bottomNext n (getD b at 0) k → j ≡ n - 1
-        → (j + g .n ≤ 141) × State b t (j + g .n) k2 (g .to) (nf + y) (ns + z) x
-    loop-next t i j x y z k2 bytes hi hs hx hy hz hk hj =
-        let w = state-next b s n k at nf ns f st ha g t bytes went (subst (λ (l : ℕ). Stored s l g t) hi hs) in
-        let v : State b t (j + g .n) k2 (g .to) (nf + y) (ns + z) x = rw (hx, hy, hz, hk, hj, he) w in
-        (state-low b t (j + g .n) k2 (g .to) (nf + y) (ns + z) x v, v)
+    pub loop-next : (t : List ℕ) (i j : ℕ) (d : Progress) → Bytes b → i ≡ n - 1 → Stored s i g t → d ≡ advancedBy c n e (getD b at 0) (length b - at) → j ≡ n - 1
+        → (j + g .n ≤ 141) × StateOf b t (j + g .n) (g .to) d
+    loop-next t i j d bytes hi hs hd hj =
+        let w = state-next b s n (c .bottom) at (c .functions) (c .sentences) (c .first) st ha g t bytes went (subst (λ (l : ℕ). Stored s l g t) hi hs) in
+        let v : StateOf b t (j + g .n) (g .to) d = rw (hd, hj, he) w in
+        (state-low b t (j + g .n) (d .bottom) (g .to) (d .functions) (d .sentences) (d .first) v, v)
 
 pub function-few : (n m y : ℕ) → y ≡ functionOne n m → y ≤ 1
 function-few n m y e = rw e (functions-few n m)

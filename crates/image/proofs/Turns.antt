@@ -355,3 +355,7 @@ scalar-high c h k = rw (le-ltb c 55296 (omega arith), lt-leb c 57343 h, le-leb c
 pub scalar-over : (c : ℕ) → 1114111 < c → scalar c ≡ false
 unfolding scalar
 scalar-over c h = rw (le-ltb c 55296 (omega arith), lt-leb c 57343 (omega arith), lt-leb c 1114111 h)
+
+pub scalar-rest : (c : ℕ) → 57343 < c → leb c 1114111 ≡ scalar c
+unfolding scalar
+scalar-rest c h = rw (le-ltb c 55296 (omega arith), lt-leb c 57343 h)

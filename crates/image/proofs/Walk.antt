@@ -16,7 +16,7 @@ use Rattle.image.specs.Encode.{putFunctions, putBody, putDeclarations, s
 use Rattle.image.specs.Limits.{pick, Mode, scalar}
 use Rattle.image.specs.Automaton.{Stack, Values, Turn, wrong, spanned, nested, outside, Scan, scan, scanned, named, Word, TermMark, termMark, turnTerms, ConditionMark, conditionMark, turnConditions, SentenceMark, sentenceMark, turnSentences, ItemMark, itemMark, turnFunction, turnFunctions, turnBody, turnNames, turnCounted, turnVisibility, turnCode, turn, Read, made, atEnd, follow, run}
 use Rattle.image.specs.Steps.{refusal}
-use Rattle.image.specs.Tally.{counts, tallyOf}
+use Rattle.image.specs.Tally.{counts, tallyOf, functionsIn, sentencesIn, firstIn, tallyIn}
 use Rattle.image.specs.declared.reader.Tally.{Tally}
 use Rattle.image.proofs.Numbers.{Bytes}
 use Rattle.image.proofs.Sound.{IsSentenceMark, IsItemMark, sentence-mark-is, item-mark-is, encodings, sound, apart}
@@ -164,48 +164,6 @@ fit-turn (Stack.code x) b s h = fit-code b x s h
 fit-turn (Stack.visibility x) b s h = fit-visibility b x s h
 fit-turn (Stack.counted x) b s h = fit-counted b x h
 
--- What is left of the counts in the values to come.
-abbrev pub functionsIn : (x : Stack) → Values x → ℕ
-functionsIn Stack.any v = 0
-functionsIn Stack.body v = length (v .functions)
-functionsIn Stack.functions v = length v
-functionsIn (Stack.terms m d x) v = functionsIn x (v .1)
-functionsIn (Stack.conditions d x) v = functionsIn x (v .1 .1)
-functionsIn (Stack.name g x) v = functionsIn x (v .1)
-functionsIn (Stack.names n x) v = functionsIn x (v .1)
-functionsIn (Stack.code x) v = functionsIn x (v .1)
-functionsIn (Stack.visibility x) v = functionsIn x (v .1)
-functionsIn (Stack.counted x) v = functionsIn x (v .1)
-functionsIn (Stack.sentences d x) v = functionsIn x (v .1)
-
-abbrev pub sentencesIn : (x : Stack) → Values x → ℕ
-sentencesIn Stack.any v = 0
-sentencesIn Stack.body v = ownSentenceCount (v .functions)
-sentencesIn Stack.functions v = ownSentenceCount v
-sentencesIn (Stack.terms m d x) v = sentencesIn x (v .1)
-sentencesIn (Stack.conditions d x) v = sentencesIn x (v .1 .1)
-sentencesIn (Stack.name g x) v = sentencesIn x (v .1)
-sentencesIn (Stack.names n x) v = sentencesIn x (v .1)
-sentencesIn (Stack.code x) v = sentencesIn x (v .1)
-sentencesIn (Stack.visibility x) v = sentencesIn x (v .1)
-sentencesIn (Stack.counted x) v = sentencesIn x (v .1)
-sentencesIn (Stack.sentences zero x) v = sentenceCount (v .0) + sentencesIn x (v .1)
-sentencesIn (Stack.sentences (suc d) x) v = sentencesIn x (v .1)
-
--- The first function, f where it is passed.
-abbrev pub firstIn : (x : Stack) → ℕ → Values x → ℕ
-firstIn Stack.any f v = f
-firstIn Stack.body f v = length (putFunctions (v .functions))
-firstIn Stack.functions f v = f
-firstIn (Stack.terms m d x) f v = firstIn x f (v .1)
-firstIn (Stack.conditions d x) f v = firstIn x f (v .1 .1)
-firstIn (Stack.name g x) f v = firstIn x f (v .1)
-firstIn (Stack.names n x) f v = firstIn x f (v .1)
-firstIn (Stack.code x) f v = firstIn x f (v .1)
-firstIn (Stack.visibility x) f v = firstIn x f (v .1)
-firstIn (Stack.counted x) f v = firstIn x f (v .1)
-firstIn (Stack.sentences d x) f v = firstIn x f (v .1)
-
 -- What the byte b adds.
 abbrev pub functionsAt : Stack → ℕ → ℕ
 functionsAt Stack.any b = 0
@@ -348,11 +306,6 @@ keep-turn (Stack.counted x) b s = keep-counted b b x
 pub fit-next : (x y : Stack) (b : ℕ) (s : List ℕ) (k : ℕ) (g : Values y → Values x) → turn x b s ≡ Turn.go y k g → Fit x → Fit y
 fit-next x y b s k g e h = subst (Next (λ z f. Fit z)) e (fit-turn x b s h)
 
--- The tally, with nf functions and ns sentences passed.
-abbrev pub tallyIn : (x : Stack) → ℕ → ℕ → ℕ → ℕ → Read (Values x) → Tally
-tallyIn x l nf ns f (Read.refused n k) = Tally.Refused (refusal n (l - k))
-tallyIn x l nf ns f (Read.value v) = Tally.Counted (counts (nf + functionsIn x v) (ns + sentencesIn x v) (firstIn x f v))
-
 pub tally-start : (l f : ℕ) (r : Read Program) → tallyOf l r ≡ tallyIn Stack.body l 0 0 f r
 unfolding tallyOf
 tally-start l f (Read.refused n k) = refl
@@ -400,7 +353,7 @@ which (Stack.code x) b left f = inl (refl, tt)
 which (Stack.visibility x) b left f = inl (refl, tt)
 which (Stack.counted x) b left f = inl (refl, tt)
 
-module _ (b : List ℕ) (at : ℕ) (x y : Stack) (to : ℕ) (g : Values y → Values x) (bytes : Bytes b) (ha : at < length b) (hl : at < to) (ht : to ≤ length b)
+module _ (b : List ℕ) (at : ℕ) (x y : Stack) (to : ℕ) (g : Values y → Values x) (ha : at < length b) (hl : at < to) (ht : to ≤ length b)
     (turned : turn x (getD b at 0) (drop (suc at) b) ≡ Turn.go y (to - suc at) g) where
   rest-is : drop (to - suc at) (drop (suc at) b) ≡ drop to b
   rest-is =
@@ -417,26 +370,40 @@ module _ (b : List ℕ) (at : ℕ) (x y : Stack) (to : ℕ) (g : Values y → Va
   kept : Keeps x (getD b at 0) y g
   kept = subst (Next (Keeps x (getD b at 0))) turned (keep-turn x (getD b at 0) (drop (suc at) b))
 
-  first-kept : (f : ℕ) (v : Values y) → run y 0 (drop to b) ≡ Read.value v → firstIn x f (g v) ≡ firstIn y (firstAt x (getD b at 0) (length b - at) f) v
+  -- A turn that counts nothing and does not start the functions.
+  pub calm-step : functionsAt x (getD b at 0) ≡ 0 → sentencesAt x (getD b at 0) ≡ 0 → Inner x (getD b at 0)
+      → (nf ns f : ℕ) → tallyIn x (length b) nf ns f (run x 0 (drop at b)) ≡ tallyIn y (length b) nf ns f (run y 0 (drop to b))
   unfolding made
-  first-kept f v e =
-      ⊎-elim
-      (λ w. kept v .2 f (w .1) ∙ ap (λ (n : ℕ). firstIn y n v) (sym (w .0)))
-      (λ w.
-      let k = kept v .3 f (w .1) in
-      let k2 = kept v .3 (length b - at) (w .1) in
-      let s = sound (drop at b) x 0 (g v) (bytes-drop at b bytes) (run-step ∙ ap (made g) e) in
-      sym (k .1) ∙ (ap length (sym (s .0)) ∙ (length-drop at b ∙ (sym (k2 .0) ∙ ap (λ (n : ℕ). firstIn y n v) (sym (w .0))))))
-      (which x (getD b at 0) (length b - at) f)
-
-  pub tally-step : (nf ns f : ℕ) → tallyIn x (length b) nf ns f (run x 0 (drop at b))
-      ≡ tallyIn y (length b) (nf + functionsAt x (getD b at 0)) (ns + sentencesAt x (getD b at 0)) (firstAt x (getD b at 0) (length b - at) f) (run y 0 (drop to b))
-  unfolding made
-  tally-step nf ns f = rw run-step (by (run y 0 (drop to b)) refl)
+  calm-step h0 h1 h2 nf ns f = rw run-step (by (run y 0 (drop to b)))
     where
-      by : (r : Read (Values y)) → run y 0 (drop to b) ≡ r → tallyIn x (length b) nf ns f (made g r) ≡ tallyIn y (length b) (nf + functionsAt x (getD b at 0)) (ns + sentencesAt x (getD b at 0)) (firstAt x (getD b at 0) (length b - at) f) r
-      by (Read.refused n k) e = refl
-      by (Read.value v) e =
-          let p : nf + functionsIn x (g v) ≡ nf + functionsAt x (getD b at 0) + functionsIn y v = omega (arith, kept v .0) in
-          let q : ns + sentencesIn x (g v) ≡ ns + sentencesAt x (getD b at 0) + sentencesIn y v = omega (arith, kept v .1) in
-          rw (p, q, first-kept f v e)
+      by : (r : Read (Values y)) → tallyIn x (length b) nf ns f (made g r) ≡ tallyIn y (length b) nf ns f r
+      by (Read.refused n k) = refl
+      by (Read.value v) =
+          let p : nf + functionsIn x (g v) ≡ nf + functionsIn y v = omega (arith, kept v .0, h0) in
+          let q : ns + sentencesIn x (g v) ≡ ns + sentencesIn y v = omega (arith, kept v .1, h1) in
+          rw (p, q, kept v .2 f h2)
+
+  module _ (bytes : Bytes b) where
+    first-kept : (f : ℕ) (v : Values y) → run y 0 (drop to b) ≡ Read.value v → firstIn x f (g v) ≡ firstIn y (firstAt x (getD b at 0) (length b - at) f) v
+    unfolding made
+    first-kept f v e =
+        ⊎-elim
+        (λ w. kept v .2 f (w .1) ∙ ap (λ (n : ℕ). firstIn y n v) (sym (w .0)))
+        (λ w.
+        let k = kept v .3 f (w .1) in
+        let k2 = kept v .3 (length b - at) (w .1) in
+        let s = sound (drop at b) x 0 (g v) (bytes-drop at b bytes) (run-step ∙ ap (made g) e) in
+        sym (k .1) ∙ (ap length (sym (s .0)) ∙ (length-drop at b ∙ (sym (k2 .0) ∙ ap (λ (n : ℕ). firstIn y n v) (sym (w .0))))))
+        (which x (getD b at 0) (length b - at) f)
+
+    pub tally-step : (nf ns f : ℕ) → tallyIn x (length b) nf ns f (run x 0 (drop at b))
+        ≡ tallyIn y (length b) (nf + functionsAt x (getD b at 0)) (ns + sentencesAt x (getD b at 0)) (firstAt x (getD b at 0) (length b - at) f) (run y 0 (drop to b))
+    unfolding made
+    tally-step nf ns f = rw run-step (by (run y 0 (drop to b)) refl)
+      where
+        by : (r : Read (Values y)) → run y 0 (drop to b) ≡ r → tallyIn x (length b) nf ns f (made g r) ≡ tallyIn y (length b) (nf + functionsAt x (getD b at 0)) (ns + sentencesAt x (getD b at 0)) (firstAt x (getD b at 0) (length b - at) f) r
+        by (Read.refused n k) e = refl
+        by (Read.value v) e =
+            let p : nf + functionsIn x (g v) ≡ nf + functionsAt x (getD b at 0) + functionsIn y v = omega (arith, kept v .0) in
+            let q : ns + sentencesIn x (g v) ≡ ns + sentencesAt x (getD b at 0) + sentencesIn y v = omega (arith, kept v .1) in
+            rw (p, q, first-kept f v e)

@@ -3,12 +3,12 @@ use Prim.Native.Nat.{ℕ, zero, suc, _+_, _*_, _-_, _/_, _%_, _≤_, _<_}
 use mathlib.Core.Path.{_≡_}
 use mathlib.Core.Bool.{Bool, true, false}
 use mathlib.Core.List.{List, [], _∷_}
-use lib.ListN.{length, getD, set}
+use lib.ListN.{length, getD, set, drop}
 use lib.Dec.{ltb, leb, eqb}
 use Rattle.image.specs.Syntax.{Program}
-use Rattle.image.specs.Encode.{putFunctions, ownSentenceCount}
+use Rattle.image.specs.Encode.{putFunctions, sentenceCount, ownSentenceCount}
 use Rattle.image.specs.Limits.{pick}
-use Rattle.image.specs.Automaton.{Stack, Read}
+use Rattle.image.specs.Automaton.{Stack, Values, Read, run}
 use Rattle.image.specs.Steps.{refusal, frame, frameOn, bottom, bottomAfter, DoesAt, Does}
 use Rattle.image.specs.declared.reader.Refusal.{Refusal}
 use Rattle.image.specs.declared.reader.Frame.{Frame}
@@ -16,6 +16,8 @@ use Rattle.image.specs.declared.reader.Push.{Push}
 use Rattle.image.specs.declared.reader.Step.{Step}
 use Rattle.image.specs.declared.reader.Counts.{Counts}
 use Rattle.image.specs.declared.reader.Tally.{Tally}
+use Rattle.image.specs.declared.reader.Progress.{Progress}
+use Rattle.image.specs.declared.reader.Spot.{Spot}
 use Rattle.image.specs.declared.reader.Checked.{Checked}
 use Rattle.image.specs.Decode.{Answer}
 
@@ -81,3 +83,80 @@ firstNext (suc n) m k left f = f
 unfoldable pub checkedOf : Answer → Checked
 checkedOf (Answer.refused n p) = Checked.Refused (refusal n p)
 checkedOf (Answer.accepted w) = Checked.Accepted
+
+-- The progress after a turn at the byte m.
+abbrev pub advancedBy : Progress → ℕ → Frame → ℕ → ℕ → Progress
+advancedBy c n e m left =
+    record {
+      bottom = bottomNext n m (c .bottom);
+      functions = c .functions + functionOne n m;
+      sentences = c .sentences + sentenceOne n e m;
+      first = firstNext n m (c .bottom) left (c .first);
+    }
+
+-- The tally where no byte of l is left, with n frames on the bottom.
+abbrev pub tallyEnd : ℕ → Progress → ℕ → Tally
+tallyEnd zero c l = Tally.Counted (counts (c .functions) (c .sentences) (pick (eqb (c .bottom) 0) 0 (c .first)))
+tallyEnd (suc n) c l = Tally.Refused (refusal 5 l)
+
+-- What is left of the counts in the values to come.
+abbrev pub functionsIn : (x : Stack) → Values x → ℕ
+functionsIn Stack.any v = 0
+functionsIn Stack.body v = length (v .functions)
+functionsIn Stack.functions v = length v
+functionsIn (Stack.terms m d x) v = functionsIn x (v .1)
+functionsIn (Stack.conditions d x) v = functionsIn x (v .1 .1)
+functionsIn (Stack.name g x) v = functionsIn x (v .1)
+functionsIn (Stack.names n x) v = functionsIn x (v .1)
+functionsIn (Stack.code x) v = functionsIn x (v .1)
+functionsIn (Stack.visibility x) v = functionsIn x (v .1)
+functionsIn (Stack.counted x) v = functionsIn x (v .1)
+functionsIn (Stack.sentences d x) v = functionsIn x (v .1)
+
+abbrev pub sentencesIn : (x : Stack) → Values x → ℕ
+sentencesIn Stack.any v = 0
+sentencesIn Stack.body v = ownSentenceCount (v .functions)
+sentencesIn Stack.functions v = ownSentenceCount v
+sentencesIn (Stack.terms m d x) v = sentencesIn x (v .1)
+sentencesIn (Stack.conditions d x) v = sentencesIn x (v .1 .1)
+sentencesIn (Stack.name g x) v = sentencesIn x (v .1)
+sentencesIn (Stack.names n x) v = sentencesIn x (v .1)
+sentencesIn (Stack.code x) v = sentencesIn x (v .1)
+sentencesIn (Stack.visibility x) v = sentencesIn x (v .1)
+sentencesIn (Stack.counted x) v = sentencesIn x (v .1)
+sentencesIn (Stack.sentences zero x) v = sentenceCount (v .0) + sentencesIn x (v .1)
+sentencesIn (Stack.sentences (suc d) x) v = sentencesIn x (v .1)
+
+-- The first function, f where it is passed.
+abbrev pub firstIn : (x : Stack) → ℕ → Values x → ℕ
+firstIn Stack.any f v = f
+firstIn Stack.body f v = length (putFunctions (v .functions))
+firstIn Stack.functions f v = f
+firstIn (Stack.terms m d x) f v = firstIn x f (v .1)
+firstIn (Stack.conditions d x) f v = firstIn x f (v .1 .1)
+firstIn (Stack.name g x) f v = firstIn x f (v .1)
+firstIn (Stack.names n x) f v = firstIn x f (v .1)
+firstIn (Stack.code x) f v = firstIn x f (v .1)
+firstIn (Stack.visibility x) f v = firstIn x f (v .1)
+firstIn (Stack.counted x) f v = firstIn x f (v .1)
+firstIn (Stack.sentences d x) f v = firstIn x f (v .1)
+
+-- The tally, with nf functions and ns sentences passed.
+abbrev pub tallyIn : (x : Stack) → ℕ → ℕ → ℕ → ℕ → Read (Values x) → Tally
+tallyIn x l nf ns f (Read.refused n k) = Tally.Refused (refusal n (l - k))
+tallyIn x l nf ns f (Read.value v) = Tally.Counted (counts (nf + functionsIn x v) (ns + sentencesIn x v) (firstIn x f v))
+
+-- Reading y from p on comes to the same tally as reading x from r on.
+pub record Alike (b : List ℕ) (p : ℕ) (y : Stack) (r : ℕ) (x : Stack) : Type 0 where
+  pub is : (nf ns f : ℕ) → tallyIn y (length b) nf ns f (run y 0 (drop p b)) ≡ tallyIn x (length b) nf ns f (run x 0 (drop r b))
+
+-- What y has above x stands from p to r, before another byte; r is 0 where that is not known.
+abbrev pub Ends : List ℕ → ℕ → Stack → ℕ → Stack → Type 0
+Ends b p y r x = (r ≡ 0 → ⊥) → (p < r) × (r < length b) × Alike b p y r x
+
+-- From p with n of the frames s, reading has come to a spot.
+pub record Stops (b s : List ℕ) (n p : ℕ) (r : Spot) : Type 0 where
+  pub few : r .n ≤ n
+  pub ahead : p ≤ r .at
+  pub within : r .at < length b
+  pub is : (k : ℕ) → Alike b p (stackOf k s n) (r .at) (stackOf k s (r .n))

@@ -4,11 +4,12 @@ use crate::number::read32;
 ghost use mathlib.Core.Path.{_≡_};
 ghost use Prim.Native.Nat.{ℕ, _+_, _-_, _<_, _≤_};
 ghost use lib.ListN.{length, getD, drop};
-ghost use Rattle.image.specs.Limits.{allowed};
+ghost use Rattle.image.specs.Limits.{Mode, allowed, scalar};
 ghost use Rattle.image.specs.Automaton.{scan, run, Stack};
 ghost use Rattle.image.specs.Decode.{decode, decodeSized};
 ghost use Rattle.image.specs.Steps.{refusal, refusalOf, spanRefusal, frame, push, spanStep, nameStep, barredAs, DoesAt, Does, TermsKind, bottom as bottomOf, bottomAfter};
-ghost use Rattle.image.specs.Tally.{checkedOf, tallyOf, unpacked, topOf, Stored, TurnDoes, functionOne, sentenceOne, bottomNext, firstNext};
+ghost use Rattle.image.specs.Tally.{checkedOf, tallyOf, unpacked, topOf, Stored, TurnDoes, functionOne, sentenceOne, bottomNext, firstNext, Alike, Ends, Stops, advancedBy, tallyEnd};
+ghost use mathlib.Core.Bool.{true};
 
 // A refusal and its place; number 0 is none.
 pub struct Refusal {
@@ -577,56 +578,217 @@ pub enum Tally {
     Counted(Counts),
 }
 
+// What lies below all frames, and what was counted so far.
+pub struct Progress {
+    pub bottom: u8,
+    pub functions: usize,
+    pub sentences: usize,
+    pub first: usize,
+}
+
+// The progress after a turn at the byte m, with `left` bytes from it on.
+fn advanced(c: Progress, n: usize, e: Frame, m: u8, left: usize) -> Progress
+    requires { ⌜ (c .functions < 18446744073709551615) × (c .sentences < 18446744073709551615) ⌝ }
+    ensures { λ r. ⌜ r ≡ advancedBy c n e m left ⌝ }
+{
+    if n == 0 {
+        Progress {
+            bottom: bottom_next(n, m, c.bottom),
+            functions: c.functions + function_one(n, m),
+            sentences: c.sentences,
+            first: first_next(n, m, c.bottom, left, c.first),
+        }
+    } else {
+        Progress {
+            bottom: c.bottom,
+            functions: c.functions,
+            sentences: c.sentences + sentence_one(n, e, m),
+            first: c.first,
+        }
+    }
+}
+
+// The tally where no byte is left.
+fn tallied(n: usize, c: Progress, len: usize) -> Tally
+    ensures { λ r. ⌜ r ≡ tallyEnd n c len ⌝ }
+{
+    if n == 0 {
+        if c.bottom == 0 {
+            Tally::Counted(Counts {
+                functions: c.functions,
+                sentences: c.sentences,
+                first: 0,
+            })
+        } else {
+            Tally::Counted(Counts {
+                functions: c.functions,
+                sentences: c.sentences,
+                first: c.first,
+            })
+        }
+    } else {
+        Tally::Refused(Refusal {
+            number: 5,
+            place: len,
+        })
+    }
+}
+
+// Past the name at p, 0 where none stands whole before another byte.
+fn name_end(b: &[u8], p: usize, number: bool) -> usize
+    requires { ⌜ p < length (now b) ⌝ }
+    ensures { λ r. ⌜ ((x : Stack) → Ends (now (b .entry)) p (Stack.name number x) r x) ⌝ }
+{
+    let k = b[p];
+    if k == 0 {
+        return 0;
+    }
+    let len = k as usize;
+    if 63 < len {
+        return 0;
+    }
+    if b.len() - p <= 1 + len {
+        return 0;
+    }
+    let f = scan_refusal(b, p + 1, len, number);
+    if f.number == 0 { p + 1 + len } else { 0 }
+}
+
+fn is_scalar(c: u32) -> bool
+    ensures { λ r. ⌜ r ≡ scalar c ⌝ }
+{
+    if c < 55296 {
+        return true;
+    }
+    if c < 57344 {
+        return false;
+    }
+    c <= 1114111
+}
+
+// Past the code at p, 0 where none stands whole before another byte.
+fn code_end(b: &[u8], p: usize) -> usize
+    requires { ⌜ p < length (now b) ⌝ }
+    ensures { λ r. ⌜ ((x : Stack) → Ends (now (b .entry)) p (Stack.code x) r x) ⌝ }
+{
+    if b.len() - p <= 4 {
+        return 0;
+    }
+    if is_scalar(read32(b, p)) { p + 4 } else { 0 }
+}
+
+// Past the flat term at p, 0 where none stands whole before another byte.
+fn flat_end(b: &[u8], p: usize) -> usize
+    requires { ⌜ p < length (now b) ⌝ }
+    ensures { λ r. ⌜ ((m : Mode) (d : ℕ) (x : Stack) → Ends (now (b .entry)) p (Stack.terms m d x) r (Stack.terms m d x)) ⌝ }
+{
+    let m = b[p];
+    if m == 0 {
+        return 0;
+    }
+    if 6 < m {
+        return 0;
+    }
+    if b.len() - p < 10 {
+        return 0;
+    }
+    let f = span_refusal(b, p + 1);
+    if f.number != 0 {
+        return 0;
+    }
+    match m {
+        1 => code_end(b, p + 9),
+        3 => name_end(b, p + 9, true),
+        _ => name_end(b, p + 9, false),
+    }
+}
+
+// Past the flat terms from `at` on.
+fn flat_terms(b: &[u8], at: usize) -> usize
+    requires { ⌜ at < length (now b) ⌝ }
+    ensures { λ r. ⌜ (at ≤ r) × (r < length (now (b .entry))) × ((m : Mode) (d : ℕ) (x : Stack) → Alike (now (b .entry)) at (Stack.terms m d x) r (Stack.terms m d x)) ⌝ }
+{
+    let mut p = at;
+    let mut q = flat_end(b, p);
+    while q != 0 {
+        p = q;
+        q = flat_end(b, p);
+    }
+    p
+}
+
+fn is_terms(c: u16) -> bool
+    ensures { λ r. ⌜ (r ≡ true → TermsKind (unpacked c .kind)) ⌝ }
+{
+    if c < 512 {
+        return false;
+    }
+    c < 1024
+}
+
+// How many frames are left, and the place.
+pub struct Spot {
+    pub n: usize,
+    pub at: usize,
+}
+
+// Past flat terms and closes, which push no frame and count for nothing, up to any other byte.
+fn over_terms(b: &[u8], s: &[u16], top: usize, at: usize) -> Spot
+    requires { ⌜ (at < length (now b)) × (top ≤ length (now s)) ⌝ }
+    ensures { λ r. ⌜ Stops (now (b .entry)) (now (s .entry)) top at r ⌝ }
+{
+    let mut n = top;
+    let mut p = at;
+    while 0 < n {
+        if !is_terms(s[n - 1]) {
+            return Spot { n, at: p };
+        }
+        p = flat_terms(b, p);
+        if b[p] != 15 {
+            return Spot { n, at: p };
+        }
+        if b.len() - p < 2 {
+            return Spot { n, at: p };
+        }
+        n -= 1;
+        p += 1;
+    }
+    Spot { n, at: p }
+}
+
 // Reads a whole body: the first refusal, or the counts.
 pub fn check_body(b: &[u8]) -> Tally
     ensures { λ r. ⌜ r ≡ tallyOf (length (now (b .entry))) (run Stack.body 0 (now (b .entry))) ⌝ }
 {
     let mut stack = [0u16; 148];
     let mut top: usize = 0;
-    let mut bottom: u8 = 0;
     let mut at: usize = 0;
-    let mut functions: usize = 0;
-    let mut sentences: usize = 0;
-    let mut first: usize = 0;
+    let mut c = Progress {
+        bottom: 0,
+        functions: 0,
+        sentences: 0,
+        first: 0,
+    };
     while at < b.len() {
-        let m = b[at];
-        let e = top_of(&stack, top);
-        let r = turn(b, at, bottom, top, e);
+        let t = over_terms(b, &stack, top, at);
+        let n = t.n;
+        let p = t.at;
+        let m = b[p];
+        let e = top_of(&stack, n);
+        let r = turn(b, p, c.bottom, n, e);
         match r {
             Step::Refuse(f) => {
                 return Tally::Refused(f);
             }
             Step::Go(g) => {
-                store(&mut stack, below(top), g);
-                first = first_next(top, m, bottom, b.len() - at, first);
-                functions += function_one(top, m);
-                sentences += sentence_one(top, e, m);
-                bottom = bottom_next(top, m, bottom);
-                top = below(top) + g.n;
+                store(&mut stack, below(n), g);
+                c = advanced(c, n, e, m, b.len() - p);
+                top = below(n) + g.n;
                 at = g.to;
             }
         }
     }
-    if top == 0 {
-        if bottom == 0 {
-            Tally::Counted(Counts {
-                functions,
-                sentences,
-                first: 0,
-            })
-        } else {
-            Tally::Counted(Counts {
-                functions,
-                sentences,
-                first,
-            })
-        }
-    } else {
-        Tally::Refused(Refusal {
-            number: 5,
-            place: b.len(),
-        })
-    }
+    tallied(top, c, b.len())
 }
 
 pub enum Checked {

@@ -1,0 +1,137 @@
+-- Flat terms and closes: reading comes to the same tally from past them on.
+use Prim.Native.Nat.{ℕ, zero, suc, _+_, _-_, _/_, _%_, _≤_, _<_}
+use native.Mathlib.Omega.{arith}
+use mathlib.Core.Path.{_≡_, refl, sym, ap, subst, _∙_}
+use mathlib.Core.Bool.{Bool, true, false}
+use mathlib.Core.Logic.{_⊎_, inl, inr}
+use mathlib.Core.List.{List, [], _∷_}
+use lib.ListN.{length, getD, drop}
+use Rattle.image.specs.Bytes.{get32}
+use Rattle.image.specs.Limits.{Mode, scalar}
+use Rattle.image.specs.Automaton.{Stack, scan}
+use Rattle.image.specs.Steps.{refusalOf, spanRefusal, frame, push, kindOn, frameOn, pushed, Goes, termsKind, TermsKind}
+use Rattle.image.specs.Tally.{unpacked, stackOf, Alike, Ends, Stops}
+use Rattle.image.specs.declared.reader.Refusal.{Refusal}
+use Rattle.image.specs.declared.reader.Push.{Push}
+use Rattle.image.specs.declared.reader.Spot.{Spot}
+use Rattle.image.proofs.Refusals.{span-on, name-on}
+use Rattle.image.proofs.Turns.{turn-character, turn-word, turn-number, turn-close, name-turn, number-turn, code-fine}
+use Rattle.image.proofs.Helpers.{is-result, is-pattern}
+use Rattle.image.proofs.Walk.{functionsAt, sentencesAt, Inner, calm-step}
+
+-- A turn that counts nothing.
+goes-alike : (b : List ℕ) (p : ℕ) (y x : Stack) (g : Push) → p < length b → functionsAt y (getD b p 0) ≡ 0 → sentencesAt y (getD b p 0) ≡ 0 → Inner y (getD b p 0) → Goes b p y x g → Alike b p y (g .to) (pushed g x)
+goes-alike b p y x g hp h0 h1 h2 w = record { is = calm-step b p y (pushed g x) (g .to) (w .make) hp (w .ahead) (w .within) (w .is) h0 h1 h2 }
+
+pub alike-self : {b : List ℕ} {p : ℕ} {x : Stack} → Alike b p x p x
+alike-self = record { is = λ nf ns f. refl }
+
+pub alike-then : {b : List ℕ} {p q r : ℕ} {x y z : Stack} → Alike b p x q y → Alike b q y r z → Alike b p x r z
+alike-then f g = record { is = λ nf ns i. f .is nf ns i ∙ g .is nf ns i }
+
+-- No end is known.
+pub no-end : {b : List ℕ} {p : ℕ} {y x : Stack} → Ends b p y 0 x
+no-end z = absurd (z refl)
+
+module _ (b : List ℕ) (p : ℕ) (hp : p < length b) where
+  name-goes : (g : Bool) {f : Refusal} → (getD b p 0 ≡ 0 → ⊥) → getD b p 0 ≤ 63 → f ≡ refusalOf (length b) (scan g (getD b p 0) (drop (p + 1) b)) → f .number ≡ 0
+      → (x : Stack) → Goes b p (Stack.name g x) x (push (p + 1 + getD b p 0) 0 (frame 0 0) (frame 0 0) (frame 0 0) (frame 0 0))
+  name-goes true z l q h x = number-turn b p hp (frame 0 0) 0 (name-on b p true 0 (frame 0 0) z l q h refl) x
+  name-goes false z l q h x = name-turn b p hp (frame 0 0) 0 (name-on b p false 0 (frame 0 0) z l q h refl) x
+
+  pub name-ends : (g : Bool) {f : Refusal} → (getD b p 0 ≡ 0 → ⊥) → getD b p 0 ≤ 63 → 1 + getD b p 0 < length b - p → f ≡ refusalOf (length b) (scan g (getD b p 0) (drop (p + 1) b)) → f .number ≡ 0
+      → (x : Stack) → Ends b p (Stack.name g x) (p + 1 + getD b p 0) x
+  name-ends g z l u q h x n = (omega arith, omega arith, goes-alike b p (Stack.name g x) x _ hp refl refl tt (name-goes g z l q h x))
+
+  pub code-ends : {c : ℕ} {t : Bool} → 4 < length b - p → c ≡ get32 b p → t ≡ scalar c → t ≡ true → (x : Stack) → Ends b p (Stack.code x) (p + 4) x
+  code-ends l q e h x n = (omega arith, omega arith, goes-alike b p (Stack.code x) x _ hp refl refl tt (code-fine b p hp 0 (omega arith) q (sym e ∙ h) (frame 0 0) refl x))
+
+  -- The mark and the span of a flat term.
+  module _ {f : Refusal} (e : f ≡ spanRefusal b (p + 1)) (h : f .number ≡ 0) where
+    character-alike : getD b p 0 ≡ 1 → (m : Mode) (d : ℕ) (x : Stack) → Alike b p (Stack.terms m d x) (p + 9) (Stack.code (Stack.terms m d x))
+    character-alike q Mode.result d x = goes-alike b p (Stack.terms Mode.result d x) x _ hp refl refl tt (turn-character b p 2 d hp (is-result 2 refl) q (frame 0 0) (span-on b p 2 (frame 2 d) (frame 9 0) (frame 0 0) (frame 0 0) e h refl) x)
+    character-alike q Mode.pattern d x = goes-alike b p (Stack.terms Mode.pattern d x) x _ hp refl refl tt (turn-character b p 3 d hp (is-pattern 3 refl) q (frame 0 0) (span-on b p 2 (frame 3 d) (frame 9 0) (frame 0 0) (frame 0 0) e h refl) x)
+
+    number-alike : getD b p 0 ≡ 3 → (m : Mode) (d : ℕ) (x : Stack) → Alike b p (Stack.terms m d x) (p + 9) (Stack.name true (Stack.terms m d x))
+    number-alike q Mode.result d x = goes-alike b p (Stack.terms Mode.result d x) x _ hp refl refl tt (turn-number b p 2 d hp (is-result 2 refl) q (frame 0 0) (span-on b p 2 (frame 2 d) (frame 7 0) (frame 0 0) (frame 0 0) e h refl) x)
+    number-alike q Mode.pattern d x = goes-alike b p (Stack.terms Mode.pattern d x) x _ hp refl refl tt (turn-number b p 3 d hp (is-pattern 3 refl) q (frame 0 0) (span-on b p 2 (frame 3 d) (frame 7 0) (frame 0 0) (frame 0 0) e h refl) x)
+
+    word-alike : (getD b p 0 ≡ 2) ⊎ ((getD b p 0 ≡ 4) ⊎ ((getD b p 0 ≡ 5) ⊎ (getD b p 0 ≡ 6))) → (m : Mode) (d : ℕ) (x : Stack) → Alike b p (Stack.terms m d x) (p + 9) (Stack.name false (Stack.terms m d x))
+    word-alike q Mode.result d x = goes-alike b p (Stack.terms Mode.result d x) x _ hp refl refl tt (turn-word b p 2 d hp (is-result 2 refl) q (frame 0 0) (span-on b p 2 (frame 2 d) (frame 6 0) (frame 0 0) (frame 0 0) e h refl) x)
+    word-alike q Mode.pattern d x = goes-alike b p (Stack.terms Mode.pattern d x) x _ hp refl refl tt (turn-word b p 3 d hp (is-pattern 3 refl) q (frame 0 0) (span-on b p 2 (frame 3 d) (frame 6 0) (frame 0 0) (frame 0 0) e h refl) x)
+
+    pub flat-character : getD b p 0 ≡ 1 → {r : ℕ} → ((x : Stack) → Ends b (p + 9) (Stack.code x) r x) → (m : Mode) (d : ℕ) (x : Stack) → Ends b p (Stack.terms m d x) r (Stack.terms m d x)
+    flat-character q w m d x z = let u = w (Stack.terms m d x) z in (omega (arith, u .0), u .1, alike-then (character-alike q m d x) (u .2))
+
+    pub flat-number : getD b p 0 ≡ 3 → {r : ℕ} → ((x : Stack) → Ends b (p + 9) (Stack.name true x) r x) → (m : Mode) (d : ℕ) (x : Stack) → Ends b p (Stack.terms m d x) r (Stack.terms m d x)
+    flat-number q w m d x z = let u = w (Stack.terms m d x) z in (omega (arith, u .0), u .1, alike-then (number-alike q m d x) (u .2))
+
+    pub flat-word : (getD b p 0 ≡ 2) ⊎ ((getD b p 0 ≡ 4) ⊎ ((getD b p 0 ≡ 5) ⊎ (getD b p 0 ≡ 6))) → {r : ℕ} → ((x : Stack) → Ends b (p + 9) (Stack.name false x) r x) → (m : Mode) (d : ℕ) (x : Stack) → Ends b p (Stack.terms m d x) r (Stack.terms m d x)
+    flat-word q w m d x z = let u = w (Stack.terms m d x) z in (omega (arith, u .0), u .1, alike-then (word-alike q m d x) (u .2))
+
+-- The marks of words that are no numbers, by exclusion.
+pub word-marks : (v : ℕ) → (v ≡ 0 → ⊥) → v ≤ 6 → (v ≡ 1 → ⊥) → (v ≡ 3 → ⊥) → (v ≡ 2) ⊎ ((v ≡ 4) ⊎ ((v ≡ 5) ⊎ (v ≡ 6)))
+word-marks zero n0 l n1 n3 = absurd (n0 refl)
+word-marks (suc zero) n0 l n1 n3 = absurd (n1 refl)
+word-marks (suc (suc zero)) n0 l n1 n3 = inl refl
+word-marks (suc (suc (suc zero))) n0 l n1 n3 = absurd (n3 refl)
+word-marks (suc (suc (suc (suc zero)))) n0 l n1 n3 = inr (inl refl)
+word-marks (suc (suc (suc (suc (suc zero))))) n0 l n1 n3 = inr (inr (inl refl))
+word-marks (suc (suc (suc (suc (suc (suc zero)))))) n0 l n1 n3 = inr (inr (inr refl))
+word-marks (suc (suc (suc (suc (suc (suc (suc v))))))) n0 l n1 n3 = absurd (omega arith)
+
+pub no-terms : {A : Type 0} → false ≡ true → A
+no-terms e = absurd (let z : _≡_ {A = ℕ} 0 1 = cc in omega arith)
+
+-- Kinds of frames in one number: 512 to 1023 are terms.
+pub terms-kind : (c : ℕ) → 512 ≤ c → c < 1024 → TermsKind (unpacked c .kind)
+terms-kind c l h = by (c / 256) (omega arith) (omega arith)
+  where
+    by : (k : ℕ) → 2 ≤ k → k ≤ 3 → TermsKind k
+    by zero u v = absurd (omega arith)
+    by (suc zero) u v = absurd (omega arith)
+    by (suc (suc zero)) u v = is-result 2 refl
+    by (suc (suc (suc zero))) u v = is-pattern 3 refl
+    by (suc (suc (suc (suc k)))) u v = absurd (omega arith)
+
+by-terms : (P : Stack → Type 0) (k a : ℕ) (x : Stack) → TermsKind k → ((m : Mode) → P (Stack.terms m a x)) → P (kindOn k a x)
+by-terms P k a x h f = subst (λ (j : ℕ). P (kindOn j a x)) (sym (h .is)) (by (h .mode))
+  where
+    by : (m : Mode) → P (kindOn (termsKind m) a x)
+    by Mode.result = f Mode.result
+    by Mode.pattern = f Mode.pattern
+
+-- With terms on top of n frames: past flat terms, and past the close.
+module _ (b s : List ℕ) (k : ℕ) where
+  frame-alike : (n p r : ℕ) → TermsKind (unpacked (getD s n 0) .kind) → ((m : Mode) (d : ℕ) (x : Stack) → Alike b p (Stack.terms m d x) r (Stack.terms m d x)) → Alike b p (stackOf k s (suc n)) r (stackOf k s (suc n))
+  frame-alike n p r h w = by-terms (λ y. Alike b p y r y) (getD s n 0 / 256) (getD s n 0 % 256) (stackOf k s n) h (λ m. w m (getD s n 0 % 256) (stackOf k s n))
+
+  close-alike : (n p : ℕ) → p < length b → TermsKind (unpacked (getD s n 0) .kind) → getD b p 0 ≡ 15 → Alike b p (stackOf k s (suc n)) (p + 1) (stackOf k s n)
+  close-alike n p hp h q =
+      let x = stackOf k s n in
+      let g = turn-close b p (getD s n 0 / 256) (getD s n 0 % 256) hp h q (frame 0 0) refl x in
+      by-terms (λ y. Goes b p y x (push (p + 1) 0 (frame 0 0) (frame 0 0) (frame 0 0) (frame 0 0)) → Alike b p y (p + 1) x) (getD s n 0 / 256) (getD s n 0 % 256) x h
+      (λ m w. goes-alike b p (Stack.terms m (getD s n 0 % 256) x) x _ hp refl refl tt w) g
+
+abbrev pub spot : ℕ → ℕ → Spot
+spot n p = record { n = n; at = p }
+
+module _ (b s : List ℕ) (top at : ℕ) where
+  pub stops-first : at < length b → Stops b s top at (spot top at)
+  stops-first h = record { few = omega arith; ahead = omega arith; within = h; is = λ k. alike-self }
+
+  pub stops-flat : (n p r : ℕ) → Stops b s top at (spot n p) → 0 < n → TermsKind (unpacked (getD s (n - 1) 0) .kind) → (p ≤ r) × (r < length b) × ((m : Mode) (d : ℕ) (x : Stack) → Alike b p (Stack.terms m d x) r (Stack.terms m d x))
+      → Stops b s top at (spot n r)
+  stops-flat zero p r h z t w = absurd (omega arith)
+  stops-flat (suc n) p r h z t w =
+      let e : suc n - 1 ≡ n = omega arith in
+      let u : TermsKind (unpacked (getD s n 0) .kind) = rw e at t in
+      record { few = h .few; ahead = omega (arith, h .ahead, w .0); within = w .1; is = λ k. alike-then (h .is k) (frame-alike b s k n p r u (w .2)) }
+
+  pub stops-close : (n p : ℕ) → Stops b s top at (spot n p) → 0 < n → TermsKind (unpacked (getD s (n - 1) 0) .kind) → getD b p 0 ≡ 15 → 2 ≤ length b - p → Stops b s top at (spot (n - 1) (p + 1))
+  stops-close zero p h z t q l = absurd (omega arith)
+  stops-close (suc n) p h z t q l =
+      let e : suc n - 1 ≡ n = omega arith in
+      let u : TermsKind (unpacked (getD s n 0) .kind) = rw e at t in
+      rw e
+      (record { few = omega (arith, h .few); ahead = omega (arith, h .ahead); within = omega arith; is = λ k. alike-then (h .is k) (close-alike b s k n p (omega (arith, h .within)) u q) })

@@ -244,12 +244,12 @@ def check_examples():
 
 
 def check_example_reports(oracle):
-    reports = {path.stem: path.read_bytes() for path in sorted(EXAMPLES.glob("*.report"))}
-    reports["worked"] = WORKED_REPORT
-    for name, expected in reports.items():
-        report = oracle.clean(image_of((EXAMPLES / f"{name}.ref").read_bytes()))[1]
-        check(report == expected, f"the report of the example {name}")
-    print(f"oracle: {len(reports)} examples have their reports, the worked one document 01's")
+    texts = sorted(EXAMPLES.glob("*.ref"))
+    for path in texts:
+        report = oracle.clean(image_of(path.read_bytes()))[1]
+        check(report == path.with_suffix(".report").read_bytes(), f"the report of the example {path.stem}")
+    check((EXAMPLES / "worked.report").read_bytes() == WORKED_REPORT, "the stored report of the worked example")
+    print(f"oracle: {len(texts)} examples have their reports, the worked one document 01's")
 
 
 # -------------------------------------------------------------------- corpus

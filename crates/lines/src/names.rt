@@ -1,6 +1,6 @@
 // The functions that a call or block in an argument makes uncharacterised.
-use crate::sentence::put_name;
 use crate::alike::same_names;
+use crate::sentence::put_name;
 use index::Plan;
 use index::names::function_name;
 use index::table::head_site;

@@ -37,8 +37,7 @@ pub struct Room {
 // The fuel of each pair of sequences.
 const OVERLAP_FUEL: u32 = 4096;
 
-// How many splits may be open as calls, before the stack in the room serves, where it has no entries for how splits began: a
-// call knows that, and so remembers what it spent.
+// How many splits may be open as calls, before the stack in the room serves.
 const NATIVE_DEPTH: u32 = 4;
 
 pub fn is_overlap(v: Verdict) -> bool
@@ -137,11 +136,11 @@ pub fn patterns_overlap(b: &[u8], p: usize, q: usize, room: &mut [u32], lent: Ro
     search::sequence(b, p, q, OVERLAP_FUEL, NATIVE_DEPTH, 0, room, lent)
 }
 
-// The verdict alone, which is remembered as that of a bracket pair is. All splits go on the stack, which is quicker.
+// The verdict alone, which is remembered as that of a bracket pair is.
 pub fn patterns_verdict(b: &[u8], p: usize, q: usize, room: &mut [u32], lent: Room) -> Verdict
     requires { ⌜ TermsAt Mode.pattern (drop p (now b)) × TermsAt Mode.pattern (drop q (now b)) × (length (now b) ≤ 32768) × Remembers (now b) (now room) lent ⌝ }
     ensures answers { λ r. ⌜ ((x : TermsAt Mode.pattern (drop p (now (b .entry)))) (y : TermsAt Mode.pattern (drop q (now (b .entry)))) → r ≡ patternsOverlap (x .terms) (y .terms)) ⌝ }
     ensures keeps { λ _. ⌜ Searched (now (b .entry)) lent 0 (now (room .entry)) (now (room .exit)) ⌝ }
 {
-    search::pair_overlap(b, p, q, 0, 0, room, lent)
+    search::pair_overlap(b, p, q, NATIVE_DEPTH, 0, room, lent)
 }

@@ -5,18 +5,21 @@ use mathlib.Core.Path.{_≡_, refl, sym, ap, subst, _∙_}
 use mathlib.Core.Bool.{Bool, true, false}
 use mathlib.Core.Logic.{_⊎_, inl, inr}
 use mathlib.Core.List.{List, [], _∷_}
-use lib.ListN.{length, getD, drop}
+use lib.ListN.{length, getD, take, drop}
+use lib.Seq.{drop-cons}
+use lib.Dec.{ltb, leb}
 use Rattle.image.specs.Bytes.{get32}
-use Rattle.image.specs.Limits.{Mode, scalar}
-use Rattle.image.specs.Automaton.{Stack, scan}
+use Rattle.image.specs.Limits.{pick, Mode, scalar}
+use Rattle.image.specs.Automaton.{Stack, Values, Scan, scan, scanned, Turn, wrong, named, turnNames, turn, Read, made, follow, run}
 use Rattle.image.specs.Steps.{refusalOf, spanRefusal, frame, push, kindOn, frameOn, pushed, Goes, termsKind, TermsKind}
-use Rattle.image.specs.Tally.{unpacked, stackOf, Alike, Ends, Stops}
+use Rattle.image.specs.Tally.{unpacked, stackOf, tallyIn, Alike, Ends, Stops}
 use Rattle.image.specs.declared.reader.Refusal.{Refusal}
 use Rattle.image.specs.declared.reader.Push.{Push}
+use Rattle.image.specs.declared.reader.Tally.{Tally}
 use Rattle.image.specs.declared.reader.Spot.{Spot}
 use Rattle.image.proofs.Refusals.{span-on, name-on}
-use Rattle.image.proofs.Turns.{turn-character, turn-word, turn-number, turn-close, name-turn, number-turn, code-fine}
-use Rattle.image.proofs.Helpers.{is-result, is-pattern}
+use Rattle.image.proofs.Turns.{turn-character, turn-word, turn-number, turn-close, counted-none, counted-some, name-turn, number-turn, code-fine}
+use Rattle.image.proofs.Helpers.{is-result, is-pattern, other-kind}
 use Rattle.image.proofs.Walk.{functionsAt, sentencesAt, Inner, calm-step}
 
 -- A turn that counts nothing.
@@ -68,6 +71,55 @@ module _ (b : List ℕ) (p : ℕ) (hp : p < length b) where
 
     pub flat-word : (getD b p 0 ≡ 2) ⊎ ((getD b p 0 ≡ 4) ⊎ ((getD b p 0 ≡ 5) ⊎ (getD b p 0 ≡ 6))) → {r : ℕ} → ((x : Stack) → Ends b (p + 9) (Stack.name false x) r x) → (m : Mode) (d : ℕ) (x : Stack) → Ends b p (Stack.terms m d x) r (Stack.terms m d x)
     flat-word q w m d x z = let u = w (Stack.terms m d x) z in (omega (arith, u .0), u .1, alike-then (word-alike q m d x) (u .2))
+
+-- So many names, and then x.
+abbrev pub namesOn : ℕ → Stack → Stack
+namesOn zero x = x
+namesOn (suc n) x = Stack.names n x
+
+module _ {A C : Type 0} (R : Read A → Tally) (S : Read C → Tally) (wrongs : (n l : ℕ) → R (Read.refused n l) ≡ S (Read.refused n l)) where
+  -- Two readings of one name tell the same where what follows does.
+  named-same : (y : Stack) (v : ℕ) (s : List ℕ) (f : Values y → A) (h : Values y → C) (k : (z : Stack) → ℕ → Read (Values z)) → ((r : Read (Values y)) → R (made f r) ≡ S (made h r))
+      → R (follow (named false v s (Turn.go y v f)) k) ≡ S (follow (named false v s (Turn.go y v h)) k)
+  unfolding named scanned follow wrong
+  named-same y v s f h k e = by (ltb 0 v) (leb v 63) (scan false v s)
+    where
+      by : (t u : Bool) (w : Scan) → R (follow (pick t (pick u (scanned w (Turn.go y v f)) (wrong 6 s)) (wrong 6 s)) k) ≡ S (follow (pick t (pick u (scanned w (Turn.go y v h)) (wrong 6 s)) (wrong 6 s)) k)
+      by true true (Scan.refuse n l) = wrongs n l
+      by true true Scan.good = e (k y v)
+      by true false w = wrongs 6 (suc (length s))
+      by false u w = wrongs 6 (suc (length s))
+
+module _ (b : List ℕ) (p : ℕ) (hp : p < length b) where
+  counted-alike : (v : ℕ) → getD b p 0 ≡ v → (x : Stack) → Alike b p (Stack.counted x) (p + 1) (namesOn v x)
+  counted-alike zero q x = goes-alike b p (Stack.counted x) x _ hp refl refl tt (counted-none b p hp 0 q (frame 0 0) refl x)
+  counted-alike (suc n) q x = goes-alike b p (Stack.counted x) x _ hp refl refl tt (counted-some b p hp 0 n (λ z. omega arith) (omega arith) refl x)
+
+  pub counted-first : (x : Stack) → Alike b p (Stack.counted x) (p + 1) (namesOn (getD b p 0) x)
+  counted-first x = counted-alike (getD b p 0) refl x
+
+  -- The first of some names.
+  names-first : (n : ℕ) (x : Stack) → Alike b p (Stack.names n x) p (Stack.name false (namesOn n x))
+  unfolding run turn turnNames made
+  names-first zero x = record { is = λ nf ns i. rw (drop-cons b p 0 hp) (named-same (tallyIn (Stack.names zero x) (length b) nf ns i) (tallyIn (Stack.name false x) (length b) nf ns i) (λ n l. refl) x (getD b p 0) (drop (suc p) b) _ _ (λ z k. run z k (drop (suc p) b)) (by nf ns i)) }
+    where
+      by : (nf ns i : ℕ) (r : Read (Values x)) → tallyIn (Stack.names zero x) (length b) nf ns i (made (λ v. (take (getD b p 0) (drop (suc p) b) ∷ [], v)) r) ≡ tallyIn (Stack.name false x) (length b) nf ns i (made (λ v. (take (getD b p 0) (drop (suc p) b), v)) r)
+      by nf ns i (Read.refused n l) = refl
+      by nf ns i (Read.value v) = refl
+  names-first (suc n) x = record { is = λ nf ns i. rw (drop-cons b p 0 hp) (named-same (tallyIn (Stack.names (suc n) x) (length b) nf ns i) (tallyIn (Stack.name false (Stack.names n x)) (length b) nf ns i) (λ m l. refl) (Stack.names n x) (getD b p 0) (drop (suc p) b) _ _ (λ z k. run z k (drop (suc p) b)) (by nf ns i)) }
+    where
+      by : (nf ns i : ℕ) (r : Read (Values (Stack.names n x))) → tallyIn (Stack.names (suc n) x) (length b) nf ns i (made (λ v. (take (getD b p 0) (drop (suc p) b) ∷ v .0, v .1)) r) ≡ tallyIn (Stack.name false (Stack.names n x)) (length b) nf ns i (made (λ v. (take (getD b p 0) (drop (suc p) b), v)) r)
+      by nf ns i (Read.refused m l) = refl
+      by nf ns i (Read.value v) = refl
+
+  pub names-next : (at left r : ℕ) → 0 < left → ((x : Stack) → Alike b at (Stack.counted x) p (namesOn left x)) → ((x : Stack) → Ends b p (Stack.name false x) r x) → (r ≡ 0 → ⊥) → (x : Stack) → Alike b at (Stack.counted x) r (namesOn (left - 1) x)
+  names-next at zero r l h w z x = absurd (omega arith)
+  names-next at (suc n) r l h w z x =
+      let e : suc n - 1 ≡ n = omega arith in
+      rw e (alike-then (h x) (alike-then (names-first n x) (w (namesOn n x) z .2)))
+
+pub counted-done : {b : List ℕ} {at p left : ℕ} → at < p → p < length b → left ≤ 0 → ((x : Stack) → Alike b at (Stack.counted x) p (namesOn left x)) → (x : Stack) → Ends b at (Stack.counted x) p x
+counted-done {b} {at} {p} {left} h l z w x n = let e : left ≡ 0 = omega arith in (h, l, subst (λ (j : ℕ). Alike b at (Stack.counted x) p (namesOn j x)) e (w x))
 
 -- The marks of words that are no numbers, by exclusion.
 pub word-marks : (v : ℕ) → (v ≡ 0 → ⊥) → v ≤ 6 → (v ≡ 1 → ⊥) → (v ≡ 3 → ⊥) → (v ≡ 2) ⊎ ((v ≡ 4) ⊎ ((v ≡ 5) ⊎ (v ≡ 6)))
@@ -135,3 +187,22 @@ module _ (b s : List ℕ) (top at : ℕ) where
       let u : TermsKind (unpacked (getD s n 0) .kind) = rw e at t in
       rw e
       (record { few = omega (arith, h .few); ahead = omega (arith, h .ahead); within = omega arith; is = λ k. alike-then (h .is k) (close-alike b s k n p (omega (arith, h .within)) u q) })
+
+  pub stops-then : {n p : ℕ} {r : Spot} → Stops b s top at (spot n p) → Stops b s n p r → Stops b s top at r
+  stops-then h w = record { few = omega (arith, h .few, w .few); ahead = omega (arith, h .ahead, w .ahead); within = w .within; is = λ k. alike-then (h .is k) (w .is k) }
+
+-- A count on top of n frames: past its names.
+pub stops-names : (b s : List ℕ) (n p r : ℕ) → 0 < n → 2816 ≤ getD s (n - 1) 0 → ((x : Stack) → Ends b p (Stack.counted x) r x) → (r ≡ 0 → ⊥) → Stops b s n p (spot (n - 1) r)
+stops-names b s zero p r l h w z = absurd (omega arith)
+stops-names b s (suc n) p r l h w z =
+    let e : suc n - 1 ≡ n = omega arith in
+    let u : 2816 ≤ getD s n 0 = rw e at h in
+    let c : ℕ = getD s n 0 in
+    let v : 11 ≤ c / 256 = omega arith in
+    rw e
+    (record {
+      few = omega arith;
+      ahead = omega (arith, w (stackOf 0 s n) z .0);
+      within = w (stackOf 0 s n) z .1;
+      is = λ k. subst (λ (y : Stack). Alike b p y r (stackOf k s n)) (other-kind (c / 256) (c % 256) (stackOf k s n) (λ q. omega arith) (λ q. omega arith) (λ q. omega arith) (λ q. omega arith) (λ q. omega arith) (λ q. omega arith) (λ q. omega arith) (λ q. omega arith) (λ q. omega arith)) (w (stackOf k s n) z .2);
+    })

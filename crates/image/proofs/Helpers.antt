@@ -122,7 +122,7 @@ is-pattern k e = record { mode = Mode.pattern; is = e }
 pub kinded : (b : List ℕ) (p : ℕ) (e : Frame) (r : Step) (k : ℕ) → e .kind ≡ k → Does b p (frame k (e .arg)) r → Does b p e r
 kinded b p e r k q d = subst (λ (j : ℕ). Does b p (frame j (e .arg)) r) (sym q) d
 
-other-kind : (k a : ℕ) (x : Stack) → (k ≡ 2 → ⊥) → (k ≡ 3 → ⊥) → (k ≡ 4 → ⊥) → (k ≡ 5 → ⊥) → (k ≡ 6 → ⊥) → (k ≡ 7 → ⊥) → (k ≡ 8 → ⊥) → (k ≡ 9 → ⊥) → (k ≡ 10 → ⊥) → Stack.counted x ≡ kindOn k a x
+pub other-kind : (k a : ℕ) (x : Stack) → (k ≡ 2 → ⊥) → (k ≡ 3 → ⊥) → (k ≡ 4 → ⊥) → (k ≡ 5 → ⊥) → (k ≡ 6 → ⊥) → (k ≡ 7 → ⊥) → (k ≡ 8 → ⊥) → (k ≡ 9 → ⊥) → (k ≡ 10 → ⊥) → Stack.counted x ≡ kindOn k a x
 other-kind k a x n2 n3 n4 n5 n6 n7 n8 n9 n10 =
     rw (ne-eqb k 2 n2, ne-eqb k 3 n3, ne-eqb k 4 n4, ne-eqb k 5 n5, ne-eqb k 6 n6, ne-eqb k 7 n7, ne-eqb k 8 n8, ne-eqb k 9 n9, ne-eqb k 10 n10)
 

@@ -732,7 +732,42 @@ pub struct Spot {
     pub at: usize,
 }
 
-// Past flat terms and closes, which push no frame and count for nothing, up to any other byte.
+// Past the count and the names at `at`, 0 where they do not stand whole before another byte.
+fn counted_end(b: &[u8], at: usize) -> usize
+    requires { ⌜ at < length (now b) ⌝ }
+    ensures { λ r. ⌜ ((x : Stack) → Ends (now (b .entry)) at (Stack.counted x) r x) ⌝ }
+{
+    if b.len() - at < 2 {
+        return 0;
+    }
+    let mut p = at + 1;
+    let mut left = b[at];
+    while 0 < left {
+        p = name_end(b, p, false);
+        if p == 0 {
+            return 0;
+        }
+        left -= 1;
+    }
+    p
+}
+
+// Past the names of a declaration, where its count is on top: tried once, so that a refusal costs no more than twice the names.
+fn over_names(b: &[u8], s: &[u16], n: usize, at: usize) -> Spot
+    requires { ⌜ (at < length (now b)) × (0 < n) × (n ≤ length (now s)) ⌝ }
+    ensures { λ r. ⌜ Stops (now (b .entry)) (now (s .entry)) n at r ⌝ }
+{
+    if s[n - 1] < 2816 {
+        return Spot { n, at };
+    }
+    let q = counted_end(b, at);
+    if q == 0 {
+        return Spot { n, at };
+    }
+    Spot { n: n - 1, at: q }
+}
+
+// Past flat terms, closes and declared names, which push no frame and count for nothing, up to any other byte.
 fn over_terms(b: &[u8], s: &[u16], top: usize, at: usize) -> Spot
     requires { ⌜ (at < length (now b)) × (top ≤ length (now s)) ⌝ }
     ensures { λ r. ⌜ Stops (now (b .entry)) (now (s .entry)) top at r ⌝ }
@@ -741,7 +776,7 @@ fn over_terms(b: &[u8], s: &[u16], top: usize, at: usize) -> Spot
     let mut p = at;
     while 0 < n {
         if !is_terms(s[n - 1]) {
-            return Spot { n, at: p };
+            return over_names(b, s, n, p);
         }
         p = flat_terms(b, p);
         if b[p] != 15 {

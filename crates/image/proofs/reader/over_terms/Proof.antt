@@ -4,7 +4,7 @@ use native.Mathlib.Omega.{arith}
 use denote.Ref.{now}
 use borrow.Author.Tests.{not-false}
 use Rattle.image.specs.Tally.{Stops}
-use Rattle.image.proofs.Flat.{spot, stops-first, stops-flat, stops-close}
+use Rattle.image.proofs.Flat.{spot, stops-first, stops-flat, stops-close, stops-then}
 use Rattle.image.proofs.reader.over_terms.Statement.{statement}
 use Rattle.image.proofs.reader.over_terms.Tie as tie
 
@@ -29,8 +29,11 @@ shared-slice-read-is-terms c = omega (arith, c .before .before .loop .inv .few, 
 is-terms-requires : tie.Need-is-terms-requires Inv-loop μ-loop
 is-terms-requires c κs = search needs
 
+over-names-requires : tie.Need-over-names-requires Inv-loop μ-loop
+over-names-requires c κs = (c .before .before .before .before .loop .inv .within, c .before .before .before .loop-test .taken, omega (arith, c .before .before .before .before .loop .inv .few, c .before .before .before .before .before .before .before .pre .1))
+
 returns : tie.Need-returns Inv-loop μ-loop
-returns c = c .before .before .before .before .loop .inv
+returns c = stops-then _ _ _ _ (c .before .before .before .before .before .loop .inv) (c .over-names .ensures)
 
 flat-terms-requires : tie.Need-flat-terms-requires Inv-loop μ-loop
 flat-terms-requires c κs = c .before .before .before .before .loop .inv .within
@@ -73,6 +76,7 @@ over-terms-spec =
     mul-is-terms
     shared-slice-read-is-terms
     is-terms-requires
+    over-names-requires
     returns
     flat-terms-requires
     shared-slice-read-if2

@@ -654,6 +654,7 @@ fn name_end(b: &[u8], p: usize, number: bool) -> usize
     if f.number == 0 { p + 1 + len } else { 0 }
 }
 
+// A code that a character may have.
 fn is_scalar(c: u32) -> bool
     ensures { λ r. ⌜ r ≡ scalar c ⌝ }
 {
@@ -717,6 +718,7 @@ fn flat_terms(b: &[u8], at: usize) -> usize
     p
 }
 
+// Whether the frame that c packs is terms, told without unpacking it: 512 to 1023 are the kinds RESULT and PATTERN.
 fn is_terms(c: u16) -> bool
     ensures { λ r. ⌜ (r ≡ true → TermsKind (unpacked c .kind)) ⌝ }
 {
@@ -752,7 +754,7 @@ fn counted_end(b: &[u8], at: usize) -> usize
     p
 }
 
-// Past the names of a declaration, where its count is on top: tried once, so that a refusal costs no more than twice the names.
+// Past the names of a declaration, where its count is on top (2816 packs COUNTED): tried once, so that a refusal costs no more than twice the names.
 fn over_names(b: &[u8], s: &[u16], n: usize, at: usize) -> Spot
     requires { ⌜ (at < length (now b)) × (0 < n) × (n ≤ length (now s)) ⌝ }
     ensures { λ r. ⌜ Stops (now (b .entry)) (now (s .entry)) n at r ⌝ }

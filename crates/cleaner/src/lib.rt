@@ -87,18 +87,18 @@ fn no_sentence() -> OverlapAnswer
 }
 
 // The sentences at i and j of a body b, by their patterns. The search has entries of its own: one for each `e.` variable
-// of a body, twice, as a sentence may be compared with itself, and tables of 48 slots.
+// of a body, twice, as a sentence may be compared with itself, how the first 768 of them began, and tables of 192 slots.
 fn compare(b: &[u8], i: usize, j: usize) -> OverlapAnswer
     requires { ⌜ PatternFrom (now b) i × PatternFrom (now b) j × (length (now b) ≤ 32768) ⌝ }
     ensures { λ r. ⌜ ((x : PatternFrom (now (b .entry)) i) (y : PatternFrom (now (b .entry)) j) → r ≡ comparePatterns (x .terms) (y .terms)) ⌝ }
 {
     let p = i + 9;
     let q = j + 9;
-    let mut room = [0u32; 6248];
+    let mut room = [0u32; 7878];
     let lent = Room {
         frames: 5958,
-        begun: 0,
-        slots: 48,
+        begun: 768,
+        slots: 192,
     };
     let f = overlap::patterns_overlap(b, p, q, &mut room, lent);
     let verdict = f.verdict;

@@ -19,7 +19,7 @@ slice-aggregate-patterns-overlap c = search needs
 patterns-overlap-requires : tie.Need-patterns-overlap-requires
 patterns-overlap-requires c κs =
     let x = c .before .before in
-    (pattern-part (now (x .args .b)) (x .args .i) (x .pre .0), pattern-part (now (x .args .b)) (x .args .j) (x .pre .1), x .pre .2, zero-remembers (now (x .args .b)) 6248 (record { frames = 5958; begun = 0; slots = 48 }) (omega arith))
+    (pattern-part (now (x .args .b)) (x .args .i) (x .pre .0), pattern-part (now (x .args .b)) (x .args .j) (x .pre .1), x .pre .2, zero-remembers (now (x .args .b)) 7878 (record { frames = 5958; begun = 768; slots = 192 }) (omega arith))
 
 sub-spent : tie.Need-sub-spent
 sub-spent c =

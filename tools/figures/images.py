@@ -218,6 +218,12 @@ def one_pattern(terms):
     return Program([], [Function(b"F", [Sentence(terms, [], [])])])
 
 
+def nested_pair(depth, count, width):
+    """The two patterns of `nested`, as sentences of one function."""
+    patterns = [nested_pattern(depth, count), nested_argument(depth, width)]
+    return Program([], [Function(b"F", [Sentence(pattern, [], []) for pattern in patterns])])
+
+
 def nested_calls(depth):
     inside = []
     for _ in range(depth):
@@ -238,8 +244,11 @@ HOURS = "hours"
 YEARS = "years"
 
 
-def stack_only(make, what):
-    return Kind(make, what, timed=False)
+def stack_only(make, what, reference=60):
+    """Clean is not timed. `reference` is the Rust's patience, or what is known of its time."""
+    if isinstance(reference, str):
+        return Kind(make, what, reference, timed=False)
+    return Kind(make, what, patience=reference, timed=False)
 
 
 KINDS = {
@@ -293,6 +302,11 @@ KINDS = {
     "self8": stack_only(lambda: one_pattern(level(32, 8)), "32 bracket levels with 8 `e.` each"),
     "self44": stack_only(lambda: one_pattern(level(32, 44)), "32 bracket levels with 44 `e.` each"),
     "self88": stack_only(lambda: one_pattern(level(32, 88)), "32 bracket levels with 88 `e.` each"),
+    "pair3": stack_only(lambda: nested_pair(3, 10, 5), "depth 3, full fuel, two sentences", 300),
+    "pair4": stack_only(lambda: nested_pair(4, 10, 5), "depth 4, full fuel, two sentences", HOURS),
+    "pair5": stack_only(lambda: nested_pair(5, 20, 3), "depth 5, full fuel, two sentences", YEARS),
+    "pair6": stack_only(lambda: nested_pair(6, 20, 3), "depth 6, full fuel, two sentences", YEARS),
+    "pair10": stack_only(lambda: nested_pair(10, 60, 2), "depth 10, full fuel, two sentences", YEARS),
 }
 
 

@@ -79,6 +79,14 @@ pub fn overlap(image: &[u8], first: usize, second: usize) -> (u64, u64) {
     unpacked(overlap_answer(image, first, second))
 }
 
+/// The number of the last sentence, which the trailer's last field tells; 0 where there is none.
+pub fn last_sentence(image: &[u8]) -> usize {
+    let Some(count) = image.last_chunk() else {
+        return 0;
+    };
+    usize::from(u16::from_le_bytes(*count)).saturating_sub(1)
+}
+
 /// Bits 8 to 23 and bits 24 to 63, where bits 0 to 7 are no refusal.
 fn unpacked(answer: u64) -> (u64, u64) {
     assert_eq!(answer & 0xff, 0, "refused at {}", answer >> 24);

@@ -1,7 +1,7 @@
 //! Measures the Rust that document 01 names and the static library on one image.
 //!
 //!     figures clean IMAGE CAP PATIENCE      the seconds of each, and whether they agree
-//!     figures overlap IMAGE CAP PATIENCE    the same for the first sentence against itself
+//!     figures overlap IMAGE CAP PATIENCE    the same for the first sentence against the last
 //!     figures stack ENTRY IMAGE CAP         the bytes of stack that an entry point takes
 //!     figures once IMAGE                    one call of Clean, for counting instructions
 //!
@@ -119,10 +119,12 @@ fn clean_ours(image: &[u8]) -> (f64, Written) {
 /// The search alone; the answer is the verdict and the entries spent.
 fn overlap_reference(image: &[u8]) -> (f64, (u64, u64)) {
     let program = oracle::program_of(image);
-    typical_seconds(|| oracle::overlap_of(&program, 0, 0))
+    let last = library::last_sentence(image);
+    typical_seconds(|| oracle::overlap_of(&program, 0, last))
 }
 
 /// All of Overlap: reading, finding the sentences, the search.
 fn overlap_ours(image: &[u8]) -> (f64, (u64, u64)) {
-    typical_seconds(|| library::overlap(image, 0, 0))
+    let last = library::last_sentence(image);
+    typical_seconds(|| library::overlap(image, 0, last))
 }

@@ -31,11 +31,11 @@ CRATES = [line.split(":")[0] for line in (ROOT / "crates.txt").read_text().split
 TABLES = ("clean", "overlap", "instructions", "stack")
 ASKED = ("profile",)  # printed only where asked for
 
-# The images whose stack is measured, for Clean and for Overlap of their sentence with itself.
+# The images whose stack is measured, for Clean and for Overlap of the first sentence with the last.
 CLEANED = (
     "typical32k adjacent separated both levels1 levels8 levels44 calls32 blocks32 text32".split()
 )
-OVERLAPPED = "self2900 self1300 self1 self8 self44 self88".split()
+OVERLAPPED = "self2900 self1300 self1 self8 self44 self88 pair3 pair4 pair5 pair6 pair10".split()
 
 
 # ------------------------------------------------------------------- building
@@ -137,7 +137,7 @@ def clean_table(kinds, arguments):
 
 
 def overlap_table(kinds, arguments):
-    """The Rust's search alone against all of Overlap, a sentence with itself."""
+    """The Rust's search alone against all of Overlap, the first sentence with the last."""
     head("kind", "image", "bytes", "reference, s", "ours, s", "reference / ours")
     for kind in kinds:
         answer = both("overlap", kind, arguments)

@@ -23,7 +23,7 @@ use crate::terms::term_end;
 use image::part::term_len;
 use symbols::same_symbol;
 ghost use mathlib.Core.Path.{_≡_};
-ghost use Prim.Native.Nat.{ℕ, _+_, _/_, _%_, _≤_};
+ghost use Prim.Native.Nat.{ℕ, _+_, _-_, _/_, _%_, _≤_};
 ghost use lib.ListN.{length, drop};
 ghost use Rattle.image.specs.Syntax.{Terms};
 ghost use Rattle.image.specs.Limits.{Mode};
@@ -260,7 +260,9 @@ fn absorbing_split(
 }
 
 // One split less may be open as a call.
-fn shallower(deep: u32) -> u32 {
+fn shallower(deep: u32) -> u32
+    ensures { λ r. ⌜ r ≡ deep - 1 ⌝ }
+{
     if deep == 0 { 0 } else { deep - 1 }
 }
 

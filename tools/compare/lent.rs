@@ -1,22 +1,7 @@
 //! The static library's entry points, with lent memory that is looked at afterwards.
 
+use crate::boundary::{showclean_clean, showclean_overlap};
 use crate::dice::Dice;
-
-// A slice goes as its pointer and its length.
-unsafe extern "C" {
-    fn showclean_clean(
-        image: *const u8,
-        image_length: usize,
-        output: *mut u8,
-        output_length: usize,
-        work: *mut u32,
-        work_length: usize,
-        report: *mut u8,
-        report_length: usize,
-    ) -> u64;
-    fn showclean_overlap(image: *const u8, image_length: usize, first: usize, second: usize)
-    -> u64;
-}
 
 /// What stands on either side of lent memory and must not change either.
 const MARGIN: usize = 16;

@@ -7,6 +7,8 @@
 //! printed with its seed and its image, and ends the program with 1.
 
 mod asking;
+#[path = "../boundary.rs"]
+mod boundary;
 mod damage;
 mod dice;
 mod interpreter;

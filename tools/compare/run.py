@@ -12,43 +12,13 @@ to target/compare.
 """
 
 import argparse
-import os
 import subprocess
 import sys
 from pathlib import Path
 
-HERE = Path(__file__).resolve().parent
-ROOT = HERE.parent.parent
-REFERENCE = ROOT / os.environ.get("REFERENCE", "../shared/docs/src")
-BUILD = ROOT / "target" / "compare"
+sys.path.insert(0, str(Path(__file__).resolve().parent.parent))
 
-
-def build(library):
-    """The static library, the Rust behind the oracle's decoding, and the driver of both."""
-    BUILD.mkdir(parents=True, exist_ok=True)
-    if library is None:
-        called(["rt", "staticlib", "cleaner"])
-        library = ROOT / "target" / "staticlib"
-    called(["sh", "tools/oracle/build.sh", str(REFERENCE), str(BUILD)])
-    parts = [HERE.parent / "oracle" / "main.rs", HERE.parent / "figures" / "exported.rs"]
-    (BUILD / "oracle.rs").write_text("".join(part.read_text() for part in parts))
-    compiled("oracle", BUILD / "oracle.rs", "--crate-type", "rlib", "-A", "dead_code")
-    linked = ["-L", f"native={library}", "-l", "static=cleaner"]
-    compiled("compare", HERE / "main.rs", "--crate-type", "bin", *linked)
-
-
-def compiled(name, source, *words):
-    externs = []
-    for crate in ("refal_ast", "refal_core", "oracle"):
-        if crate != name:
-            externs += ["--extern", f"{crate}={BUILD / f'lib{crate}.rlib'}"]
-    fixed = ["rustc", "--edition", "2024", "-C", "opt-level=3", "-L", str(BUILD)]
-    called([*fixed, "--out-dir", str(BUILD), "--crate-name", name, *words, *externs, str(source)])
-
-
-def called(command):
-    # Only the counts go to standard output.
-    subprocess.run(command, cwd=ROOT, check=True, stdout=sys.stderr)
+from linked import build
 
 
 def main():
@@ -58,11 +28,11 @@ def main():
     parser.add_argument("--seed", type=int, default=1)
     parser.add_argument("--library")
     arguments = parser.parse_args()
-    build(arguments.library)
+    driver = build("compare", arguments.library)
     mode, count = "images", arguments.images
     if arguments.runs is not None:
         mode, count = "runs", arguments.runs
-    command = [str(BUILD / "compare"), mode, str(count), str(arguments.seed)]
+    command = [str(driver), mode, str(count), str(arguments.seed)]
     sys.exit(subprocess.run(command).returncode)
 
 

@@ -1,24 +1,10 @@
 //! The static library's entry points, called as C functions.
 
+use crate::boundary::{showclean_clean, showclean_overlap};
+
 const LARGEST_IMAGE: usize = 32768;
 /// The longest report of the images here has about 1.5 million bytes.
 const LARGEST_REPORT: usize = 1 << 22;
-
-// A slice goes as its pointer and its length.
-unsafe extern "C" {
-    fn showclean_clean(
-        image: *const u8,
-        image_length: usize,
-        output: *mut u8,
-        output_length: usize,
-        work: *mut u32,
-        work_length: usize,
-        report: *mut u8,
-        report_length: usize,
-    ) -> u64;
-    fn showclean_overlap(image: *const u8, image_length: usize, first: usize, second: usize)
-    -> u64;
-}
 
 /// What a caller of Clean lends.
 pub struct Lent {

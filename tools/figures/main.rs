@@ -10,6 +10,8 @@
 //! `over`. ENTRY is `clean` or `overlap`. Each line of an answer is a word and its
 //! value, of which tools/figures/run.py makes tables.
 
+#[path = "../boundary.rs"]
+mod boundary;
 mod library;
 mod measure;
 mod stack;

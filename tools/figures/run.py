@@ -14,18 +14,17 @@ built goes to target/figures.
 
 import argparse
 import math
-import os
 import re
 import subprocess
 import sys
 from pathlib import Path
 
-from images import KINDS, image_of
+sys.path.insert(0, str(Path(__file__).resolve().parent.parent))
 
-HERE = Path(__file__).resolve().parent
-ROOT = HERE.parent.parent
-REFERENCE = ROOT / os.environ.get("REFERENCE", "../shared/docs/src")
-BUILD = ROOT / "target" / "figures"
+from images import KINDS, image_of
+from linked import ROOT, build, folder_of
+
+BUILD = folder_of("figures")
 DRIVER = BUILD / "figures"
 CRATES = [line.split(":")[0] for line in (ROOT / "crates.txt").read_text().splitlines()]
 TABLES = ("clean", "overlap", "instructions", "stack")
@@ -36,37 +35,6 @@ CLEANED = (
     "typical32k adjacent separated both levels1 levels8 levels44 calls32 blocks32 text32".split()
 )
 OVERLAPPED = "self2900 self1300 self1 self8 self44 self88 pair3 pair4 pair5 pair6 pair10".split()
-
-
-# ------------------------------------------------------------------- building
-
-
-def build(library):
-    """The static library, the Rust behind the oracle's decoding, and the driver of both."""
-    BUILD.mkdir(parents=True, exist_ok=True)
-    if library is None:
-        called(["rt", "staticlib", "cleaner"])
-        library = ROOT / "target" / "staticlib"
-    called(["sh", "tools/oracle/build.sh", str(REFERENCE), str(BUILD)])
-    parts = [ROOT / "tools" / "oracle" / "main.rs", HERE / "exported.rs"]
-    (BUILD / "oracle.rs").write_text("".join(part.read_text() for part in parts))
-    compiled("oracle", BUILD / "oracle.rs", "--crate-type", "rlib", "-A", "dead_code")
-    linked = ["-L", f"native={library}", "-l", "static=cleaner"]
-    compiled("figures", HERE / "main.rs", "--crate-type", "bin", *linked)
-
-
-def compiled(name, source, *words):
-    externs = []
-    for crate in ("refal_ast", "refal_core", "oracle"):
-        if crate != name:
-            externs += ["--extern", f"{crate}={BUILD / f'lib{crate}.rlib'}"]
-    fixed = ["rustc", "--edition", "2024", "-C", "opt-level=3", "-L", str(BUILD)]
-    called([*fixed, "--out-dir", str(BUILD), "--crate-name", name, *words, *externs, str(source)])
-
-
-def called(command):
-    # Only the tables go to standard output.
-    subprocess.run(command, cwd=ROOT, check=True, stdout=sys.stderr)
 
 
 # ------------------------------------------------------------------ measuring
@@ -235,7 +203,7 @@ def chosen_words():
 
 def main():
     arguments = chosen_words()
-    build(arguments.library)
+    build("figures", arguments.library)
     kinds = arguments.kind or list(KINDS)
     timed = [kind for kind in kinds if KINDS[kind].timed]
     for table in arguments.table or TABLES:

@@ -29,7 +29,11 @@ fn clean(image: &[u8], lent: &mut Lent) {
 }
 
 fn overlap(image: &[u8], _: &mut Lent) {
-    black_box(library::overlap_answer(image, 0, library::last_sentence(image)));
+    black_box(library::overlap_answer(
+        image,
+        0,
+        library::last_sentence(image),
+    ));
 }
 
 /// How far below this frame the call wrote.

@@ -1,5 +1,5 @@
-// Appended to a copy of tools/oracle/main.rs by the run.py of tools/figures and of
-// tools/compare, because its functions between images and programs are private there.
+// Appended to a copy of tools/oracle/main.rs by tools/linked.py, because its functions
+// between images and programs are private there.
 // Nothing above is changed.
 
 /// The program of an accepted image.

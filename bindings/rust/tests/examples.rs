@@ -32,7 +32,7 @@ fn cleaned(image: &[u8]) -> (Vec<u8>, Vec<u8>) {
 
 #[test]
 fn reports_are_as_stored() {
-    for name in ["removed", "cascade", "undecided", "uncovered", "dispatch"] {
+    for name in ["worked", "removed", "cascade", "undecided", "uncovered", "dispatch"] {
         let stored = fs::read(examples().join(name).with_extension("report")).expect("the example's report");
         assert_eq!(cleaned(&image_of(name)).1, stored, "{name}");
     }

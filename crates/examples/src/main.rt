@@ -1,4 +1,6 @@
-// Cleans the image of each example of data/ and compares the report with the stored one.
+// Cleans the image of each example of data/, compares the report with the stored one, and the image with the text.
+mod text;
+
 ghost use Rattle.io.specs.Counts.{Counts};
 use cleaner::CleanAnswer;
 use libc::STDOUT_FILENO;
@@ -63,21 +65,63 @@ fn clean_and_compare(img: &[u8], stored: &[u8]) {
     print_answer(a, &report, stored);
 }
 
-fn replay(name: &[u8], image_name: &[u8], report_name: &[u8]) {
+// The body of an image is all but its trailer.
+fn less_trailer(n: usize) -> usize {
+    if n < 12 { 0 } else { n - 12 }
+}
+
+fn print_spelled(img: &[u8], text: &[u8]) {
+    let n = within(less_trailer(img.len()), img);
+    if text::is_spelled(&img[..n], text) {
+        io::write_all(STDOUT_FILENO, b": text as in the image\n");
+    } else {
+        io::write_all(STDOUT_FILENO, b": text differs from the image\n");
+    }
+}
+
+fn replay(name: &[u8], image_name: &[u8], report_name: &[u8], text_name: &[u8]) {
     let mut img = io::large_buffer();
-    let mut stored = io::large_buffer();
+    let mut other = io::large_buffer();
     let n = read_file(image_name, &mut img);
-    let k = read_file(report_name, &mut stored);
+    let k = read_file(report_name, &mut other);
     io::write_all(STDOUT_FILENO, name);
-    clean_and_compare(&img[..n], &stored[..k]);
+    clean_and_compare(&img[..n], &other[..k]);
+    let l = read_file(text_name, &mut other);
+    io::write_all(STDOUT_FILENO, name);
+    print_spelled(&img[..n], &other[..l]);
 }
 
 // In the order of data/README.md.
 fn main() {
-    replay(b"worked", b"worked.image", b"worked.report");
-    replay(b"removed", b"removed.image", b"removed.report");
-    replay(b"cascade", b"cascade.image", b"cascade.report");
-    replay(b"undecided", b"undecided.image", b"undecided.report");
-    replay(b"uncovered", b"uncovered.image", b"uncovered.report");
-    replay(b"dispatch", b"dispatch.image", b"dispatch.report");
+    replay(b"worked", b"worked.image", b"worked.report", b"worked.ref");
+    replay(
+        b"removed",
+        b"removed.image",
+        b"removed.report",
+        b"removed.ref",
+    );
+    replay(
+        b"cascade",
+        b"cascade.image",
+        b"cascade.report",
+        b"cascade.ref",
+    );
+    replay(
+        b"undecided",
+        b"undecided.image",
+        b"undecided.report",
+        b"undecided.ref",
+    );
+    replay(
+        b"uncovered",
+        b"uncovered.image",
+        b"uncovered.report",
+        b"uncovered.ref",
+    );
+    replay(
+        b"dispatch",
+        b"dispatch.image",
+        b"dispatch.report",
+        b"dispatch.ref",
+    );
 }

@@ -505,6 +505,13 @@ def fuel_in_brackets():
             yield from both_orders(image, 2 * number, 2 * number + 1)
 
 
+def fuel_behind_heads():
+    """A bracket pair that needs 4,032 entries behind 70 symbols: what they spent is not missing in it."""
+    image = one_function([brief("A" * 70) + [Bracket(brief(inside))] for inside in ("eeeB", "A" * 26)])
+    yield image, 0, 1, (DISJOINT, 71)
+    yield image, 1, 0
+
+
 # -------------------------------------------------------------------- Unknown
 
 # A pair that runs out of fuel, outermost and in a bracket.
@@ -611,6 +618,7 @@ GROUPS = (
     many_expression_variables,
     fuel,
     fuel_in_brackets,
+    fuel_behind_heads,
     unknown_in_bracket,
     unknown_outside,
     random_programs,

@@ -8,7 +8,6 @@ pub mod UndecidedLists
 pub mod UndecidedLoops
 pub mod Verdicts
 pub mod Opened
-pub mod Pieces
 pub mod FallenList
 pub mod Repeating
 pub mod RemovedLines
@@ -18,3 +17,4 @@ pub mod AtMost
 pub mod Fallen
 pub mod Fits
 pub mod Short
+pub mod Carry

@@ -19,13 +19,14 @@ use Rattle.cleaning.specs.History.{isThere, afterAll}
 use Rattle.cleaning.specs.Indexed.{sitesOf}
 use Rattle.cleaning.specs.ToldReport.{fallenFrom, sameFallen, removedOf, undecidedTold, uncoveredTold, runsAfter, openedNames, toldReport}
 use Rattle.cleaning.proofs.History.{there-after}
+use Rattle.report.specs.Counts.{countLine, topText}
 use Rattle.report.specs.Fill.{Emitted}
 use Rattle.report.specs.Report.{removedLine, undecidedLine, uncoveredLine, uncharacterisedLine, dispatchLine, perfection, graphLine, lastLines, formatCleanReport}
+use Rattle.report.proofs.Pieces.{report-pieces}
 use Rattle.report.proofs.Fill.{filled-empty, emitted-append, emitted-same, emitted-length}
 use Rattle.lines.specs.declared.format.Figures.{Figures}
-use Rattle.lines.specs.Format.{countLine, topText, listsText}
+use Rattle.lines.specs.Format.{listsText, listedText}
 use Rattle.lines.specs.Figures.{FiguresOf}
-use Rattle.lines.proofs.Pieces.{report-pieces}
 
 -- A line has at least one letter, so there are no more lines than letters.
 lines-many : {A : Type 0} (line : A → Text) → ((x : A) → 1 ≤ length (line x)) → (l : List A) → length l ≤ length (flatMap line l)
@@ -144,3 +145,11 @@ whole-told w fell n p root g f e h k =
     (λ i. topText (functions i) (sentences i) (f .after i) n (f .removed i)
     ++ (listsText (toldReport w fell n) ++ (uncharacterisedLine (firsts sameName (openedNames (k i) (sitesOf w) 0 (w .functions))) ++ graphLine (perfection false (f .undecided i) (f .uncovered i)))))
     ∙ report-whole (toldReport w fell n)
+
+-- The same, with the uncharacterised functions beside the lists, as it is written.
+pub whole-listed : (w : Program) (fell : ℕ → ℕ) (n : ℕ) (p : Plan) (root : ℕ) (g : Figures) → FiguresOf (toldReport w fell n) g → length (w .functions) ≡ p .functions → length (ownSentences (w .functions)) ≡ p .sentences → root ≡ rootPlace w
+    → topText (p .functions) (p .sentences) (g .after) n (g .removed) ++ (listedText w root fell n ++ graphLine (perfection false (g .undecided) (g .uncovered))) ≡ formatCleanReport (toldReport w fell n)
+unfolding listedText
+whole-listed w fell n p root g f e h k =
+    ap (λ (t : Text). topText (p .functions) (p .sentences) (g .after) n (g .removed) ++ t) (append-assoc (listsText (toldReport w fell n)) (uncharacterisedLine (firsts sameName (openedNames root (sitesOf w) 0 (w .functions)))) (graphLine (perfection false (g .undecided) (g .uncovered))))
+    ∙ whole-told w fell n p root g f e h k

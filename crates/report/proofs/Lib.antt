@@ -5,5 +5,6 @@ pub mod Terms
 pub mod Again
 pub mod Held
 pub mod Decimal
+pub mod Pieces
 pub mod Computing
 pub mod Examples

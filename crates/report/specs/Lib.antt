@@ -1,5 +1,6 @@
 pub mod Fill
 pub mod Decimal
+pub mod Counts
 pub mod Report
 pub mod FormatTerm
 pub mod Parts

@@ -1,7 +1,7 @@
 // Terms as text, from the bytes of a part of an image.
 use crate::emit::put_byte;
+use crate::emit::put_bytes;
 use crate::emit::put_code;
-use crate::writer::write;
 use image::number::read32;
 use image::part::name_part;
 use image::part::term_len;
@@ -43,7 +43,7 @@ fn format_symbol(out: &mut [u8], at: usize, s: &[u8]) -> usize
     if s[0] == 1 {
         return format_character(out, at, read32(s, 9));
     }
-    write(out, at, name_part(&s[9..]))
+    put_bytes(out, at, name_part(&s[9..]))
 }
 
 pub fn kind_letter(mark: u8) -> u8
@@ -65,7 +65,7 @@ fn format_variable(out: &mut [u8], at: usize, s: &[u8]) -> usize
 {
     let dot = put_byte(out, at, kind_letter(s[0]));
     let name = put_byte(out, dot, 46);
-    write(out, name, name_part(&s[9..]))
+    put_bytes(out, name, name_part(&s[9..]))
 }
 
 // A space, unless the mark that follows is the close.

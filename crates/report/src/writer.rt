@@ -1,12 +1,14 @@
-// The report's writing end: it holds the lent text and how much of it is filled. Each function takes
-// it apart and calls the one on the slice and the number.
-use crate::emit::put_byte;
-use crate::emit::put_bytes;
+// "the report's writing end, which holds the lent text": each function takes it apart, has a covered
+// function fill the slice from the number on, and makes it anew.
+use crate::counts::put_graph;
+use crate::counts::put_top;
+use crate::counts::put_unchanged;
 ghost use mathlib.Core.Path.{_≡_};
-ghost use mathlib.Core.List.{[], _∷_};
+ghost use mathlib.Core.Bool.{false};
 ghost use Prim.Native.Nat.{_+_, _<_, _≤_};
-ghost use lib.ListN.{length};
-ghost use Rattle.report.specs.Fill.{Emitted, limit};
+ghost use Rattle.report.specs.Counts.{topText, unchangedText};
+ghost use Rattle.report.specs.Fill.{limit};
+ghost use Rattle.report.specs.Report.{perfection, graphLine};
 ghost use Rattle.report.specs.Written.{written};
 
 pub struct Writer<'a> {
@@ -14,44 +16,48 @@ pub struct Writer<'a> {
     pub filled: usize,
 }
 
-// The lent text, of which so much is filled.
-pub fn new<'a>(text: &'a mut [u8], filled: usize) -> Writer<'a>
-    ensures { λ r. ⌜ (r .text ≡ text .entry) × (r .filled ≡ filled) ⌝ }
-{
-    Writer { text, filled }
-}
-
-// One byte more.
-pub fn byte<'a>(w: Writer<'a>, b: u8) -> Writer<'a>
-    requires { ⌜ w .filled < limit ⌝ }
-    ensures { λ r. ⌜ r ≡ written (w .entry) (b ∷ []) ⌝ }
+// The lines before the first list.
+pub fn with_top<'a>(
+    w: Writer<'a>,
+    functions: usize,
+    before: usize,
+    after: usize,
+    rounds: usize,
+    removed: usize,
+) -> Writer<'a>
+    requires { ⌜ (functions < 100000000000000000) × (before < 100000000000000000) × (after < 100000000000000000) × (rounds < 100000000000000000) × (removed < 100000000000000000) × (w .filled + 150 ≤ limit) ⌝ }
+    ensures { λ r. ⌜ (r ≡ written (w .entry) (topText functions before after rounds removed)) × (r .filled ≤ w .entry .filled + 150) ⌝ }
 {
     let at = w.filled;
-    let next = put_byte(&mut *w.text, at, b);
+    let next = put_top(&mut *w.text, at, functions, before, after, rounds, removed);
     Writer {
         text: w.text,
         filled: next,
     }
 }
 
-// A text more.
-pub fn bytes<'a, 'b>(w: Writer<'a>, text: &'b [u8]) -> Writer<'a>
-    requires { ⌜ w .filled + length (now text) ≤ limit ⌝ }
-    ensures { λ r. ⌜ r ≡ written (w .entry) (now (text .entry)) ⌝ }
+// The verdict, of a program that is cleaned.
+pub fn with_graph<'a>(w: Writer<'a>, undecided: usize, uncovered: usize) -> Writer<'a>
+    requires { ⌜ (undecided < 100000000000000000) × (uncovered < 100000000000000000) × (w .filled + 80 ≤ limit) ⌝ }
+    ensures { λ r. ⌜ r ≡ written (w .entry) (graphLine (perfection false undecided uncovered)) ⌝ }
 {
     let at = w.filled;
-    let next = put_bytes(&mut *w.text, at, text);
+    let end = put_graph(&mut *w.text, at, undecided, uncovered);
     Writer {
         text: w.text,
-        filled: next,
+        filled: end,
     }
 }
 
-// A text behind what is filled, through a writer: whoever calls this needs none.
-pub fn write(out: &mut [u8], at: usize, text: &[u8]) -> usize
-    requires { ⌜ at + length (now text) ≤ limit ⌝ }
-    ensures { λ r. ⌜ Emitted (now (out .entry)) at (now (text .entry)) r (now (out .exit)) ⌝ }
+// All lines of a program that is left alone.
+pub fn with_unchanged<'a>(w: Writer<'a>, functions: usize, sentences: usize) -> Writer<'a>
+    requires { ⌜ (functions < 100000000000000000) × (sentences < 100000000000000000) × (w .filled + 300 ≤ limit) ⌝ }
+    ensures { λ r. ⌜ r ≡ written (w .entry) (unchangedText functions sentences) ⌝ }
 {
-    let w = bytes(new(out, at), text);
-    w.filled
+    let at = w.filled;
+    let end = put_unchanged(&mut *w.text, at, functions, sentences);
+    Writer {
+        text: w.text,
+        filled: end,
+    }
 }

@@ -8,9 +8,10 @@ use Rattle.symbols.specs.Names.{sameName}
 use Rattle.restrictions.specs.Lists.{firsts}
 use Rattle.cleaning.specs.Indexed.{sitesOf, fellOf}
 use Rattle.cleaning.specs.ToldReport.{openedNames, toldReport}
+use Rattle.report.specs.Counts.{topText}
 use Rattle.report.specs.Report.{uncharacterisedLine, perfection, graphLine}
 use Rattle.report.proofs.Fill.{emitted-append, emitted-same, emitted-length}
-use Rattle.lines.specs.Format.{topText, listsText}
+use Rattle.lines.specs.Format.{listsText}
 use Rattle.lines.proofs.Whole.{lists-measured, whole-told}
 use borrow.Author.Needs.{needs}
 use Rattle.lines.proofs.format.measure_clean_report.Statement.{statement}

@@ -6,9 +6,9 @@ use mathlib.Core.List.{_++_, flatMap}
 use Rattle.symbols.specs.Ascii.{ascii}
 use Rattle.cleaning.specs.Indexed.{fellOf}
 use Rattle.cleaning.proofs.Room.{used-fell, used-then}
+use Rattle.report.specs.Counts.{countLine}
 use Rattle.report.specs.Report.{removedLine, undecidedLine, uncoveredLine}
 use Rattle.report.proofs.Fill.{emitted-append, emitted-same, emitted-length}
-use Rattle.lines.specs.Format.{countLine}
 use Rattle.lines.proofs.RoomUsed.{used-readable, used-some}
 use Rattle.lines.proofs.Whole.{removedNow, undecidedNow, uncoveredNow, lists-told}
 use borrow.Author.Needs.{needs}

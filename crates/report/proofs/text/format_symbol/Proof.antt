@@ -42,8 +42,8 @@ part-name-part-end c = search needs
 name-part-requires : tie.Need-name-part-requires
 name-part-requires c κs = name-in (c .before .before .before .before .before .before .pre .0) (c .before .before .if1 .left) .name
 
-write-requires : tie.Need-write-requires
-write-requires c κs =
+put-bytes-requires : tie.Need-put-bytes-requires
+put-bytes-requires c κs =
     let x = name-in (c .before .before .before .before .before .before .before .pre .0) (c .before .before .before .if1 .left) in
     omega (arith, ap length (c .name-part .ensures (x .name)), x .fits)
 
@@ -53,7 +53,7 @@ same-length-2 c = search needs
 returns-2 : tie.Need-returns-2
 returns-2 c = λ x.
     let y = name-in x (c .before .before .before .before .before .before .if1 .left) in
-    emitted-same (c .before .before .before .name-part .ensures (y .name) ∙ y .text) (c .before .before .write .ensures)
+    emitted-same (c .before .before .before .name-part .ensures (y .name) ∙ y .text) (c .before .before .put-bytes .ensures)
 
 pub format-symbol-spec : {M : Type 1} → statement M
 format-symbol-spec =
@@ -68,6 +68,6 @@ format-symbol-spec =
     part-name-part-start
     part-name-part-end
     name-part-requires
-    write-requires
+    put-bytes-requires
     same-length-2
     returns-2)

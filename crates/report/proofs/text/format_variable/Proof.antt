@@ -34,8 +34,8 @@ part-name-part-end c = search needs
 name-part-requires : tie.Need-name-part-requires
 name-part-requires c κs = variable-name (c .before .before .before .before .before .before .before .before .before .before .before .before .before .before .pre .0)
 
-write-requires : tie.Need-write-requires
-write-requires c κs =
+put-bytes-requires : tie.Need-put-bytes-requires
+put-bytes-requires c κs =
     let x = c .before .before .before .before .before .before .before .before .before .before .before .before .before .before .before .pre .0 in
     omega (arith, ap length (c .name-part .ensures (variable-name x)), c .before .before .before .before .before .put-byte2 .ensures .after, c .before .before .before .before .before .before .before .before .before .put-byte .ensures .after, variable-fits x)
 
@@ -48,7 +48,7 @@ returns c = λ x.
     let name = c .before .before .before .name-part in
     let e : letter .result ∷ 46 ∷ name .result .now ≡ formatKind (x .kind) ++ x .name = rw (letter .ensures, name .ensures (variable-name x)) (variable-text x) in
     emitted-same e
-    (emitted-append (letter .result ∷ 46 ∷ []) (name .result .now) (emitted-append (letter .result ∷ []) (46 ∷ []) (c .before .before .before .before .before .before .before .before .before .before .before .before .put-byte .ensures) (c .before .before .before .before .before .before .before .before .put-byte2 .ensures)) (c .before .before .write .ensures))
+    (emitted-append (letter .result ∷ 46 ∷ []) (name .result .now) (emitted-append (letter .result ∷ []) (46 ∷ []) (c .before .before .before .before .before .before .before .before .before .before .before .before .put-byte .ensures) (c .before .before .before .before .before .before .before .before .put-byte2 .ensures)) (c .before .before .put-bytes .ensures))
 
 pub format-variable-spec : {M : Type 1} → statement M
 format-variable-spec =
@@ -62,6 +62,6 @@ format-variable-spec =
     part-name-part-start
     part-name-part-end
     name-part-requires
-    write-requires
+    put-bytes-requires
     same-length
     returns)

@@ -1,12 +1,12 @@
--- `lines::format::put_count_line` meets its contract. Assumes nothing.
+-- `report::counts::put_count_line` meets its contract. Assumes nothing.
 use native.Mathlib.Omega.{arith}
-use mathlib.Core.List.{List, [], _∷_, _++_}
-use Rattle.report.proofs.Fill.{emitted-append, emitted-same}
+use mathlib.Core.List.{[], _∷_}
+use Rattle.report.proofs.Fill.{emitted-append}
 use Rattle.symbols.specs.Ascii.{ascii}
-use Rattle.lines.specs.Format.{counted, countLine}
+use Rattle.report.specs.Counts.{counted, countLine}
 use borrow.Author.Needs.{needs}
-use Rattle.lines.proofs.format.put_count_line.Statement.{statement}
-use Rattle.lines.proofs.format.put_count_line.Tie as tie
+use Rattle.report.proofs.counts.put_count_line.Statement.{statement}
+use Rattle.report.proofs.counts.put_count_line.Tie as tie
 
 put-counted-requires : tie.Need-put-counted-requires
 put-counted-requires c κs = search needs

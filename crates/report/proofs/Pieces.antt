@@ -1,9 +1,9 @@
 -- The report's last line by the counts of the two final lists, and the report in the pieces in which it is emitted.
 use Prim.Native.Nat.{ℕ, zero, suc, _+_}
 use native.Mathlib.Omega.{arith}
-use mathlib.Core.Path.{_≡_, refl, sym, ap, ap₂, _∙_}
+use mathlib.Core.Path.{_≡_, refl, sym, ap₂, _∙_}
 use mathlib.Core.Bool.{false}
-use mathlib.Core.List.{List, [], _∷_, _++_, append-assoc, append-nil, flatten, flatMap}
+use mathlib.Core.List.{[], _∷_, _++_, append-assoc, append-nil, flatten, flatMap}
 use lib.ListN.{length}
 use Rattle.image.specs.Syntax.{Program}
 use Rattle.image.specs.Encode.{ownSentenceCount}
@@ -11,9 +11,9 @@ use Rattle.symbols.specs.Ascii.{ascii}
 use Rattle.cleaning.specs.Text.{Text}
 use Rattle.cleaning.specs.CleanReport.{CleanReport}
 use Rattle.cleaning.specs.ToldReport.{unchangedReport}
 use Rattle.report.specs.Decimal.{decimal}
 use Rattle.report.specs.Report.{Perfection, perfection, graphLine, removedLine, undecidedLine, uncoveredLine, uncharacterisedLine, dispatchLine, lastLines, formatCleanReport}
-use Rattle.lines.specs.Format.{counted, countLine, topText}
+use Rattle.report.specs.Counts.{counted, countLine, topText, unchangedText}
 
 pub perfect-none : (u v : ℕ) → u + v ≡ 0 → perfection false u v ≡ Perfection.perfect
 unfolding perfection
@@ -45,9 +45,6 @@ unfolding graphLine flatten counted
 clean-text u v = simp (append-assoc, append-nil) refl
 
 -- The report of a program that is left alone.
-pub unchanged-text : (w : Program) (functions sentences : ℕ) → length (w .functions) ≡ functions → ownSentenceCount (w .functions) ≡ sentences
-    → topText functions sentences sentences 0 0 ++ (countLine (ascii "undecided: ") 0 ++ (countLine (ascii "uncovered: ") 0 ++ ascii "dynamic-dispatch: yes (nothing cleaned)\ngraph: unknown\n")) ≡ formatCleanReport (unchangedReport w)
-unfolding unchangedReport lastLines uncharacterisedLine dispatchLine perfection graphLine flatMap flatten ascii
-unchanged-text w functions sentences e f =
-    sym (ap₂ (λ (n m : ℕ). topText n m m 0 0 ++ (countLine (ascii "undecided: ") 0 ++ (countLine (ascii "uncovered: ") 0 ++ ascii "dynamic-dispatch: yes (nothing cleaned)\ngraph: unknown\n"))) e f)
-    ∙ report-pieces (unchangedReport w)
+pub unchanged-text : (w : Program) (functions sentences : ℕ) → length (w .functions) ≡ functions → ownSentenceCount (w .functions) ≡ sentences → unchangedText functions sentences ≡ formatCleanReport (unchangedReport w)
+unfolding unchangedText unchangedReport lastLines uncharacterisedLine dispatchLine perfection graphLine flatMap flatten ascii
+unchanged-text w functions sentences e f = sym (ap₂ (λ (n m : ℕ). unchangedText n m) e f) ∙ report-pieces (unchangedReport w)

@@ -1,15 +1,14 @@
--- `lines::format::put_graph` meets its contract. Assumes nothing.
-use native.Mathlib.Omega.{arith}
-use mathlib.Core.Path.{_≡_, sym, ap, _∙_}
-use mathlib.Core.List.{List, [], _∷_, _++_}
+-- `report::counts::put_graph` meets its contract. Assumes nothing.
+use mathlib.Core.Path.{sym, ap, _∙_}
+use mathlib.Core.List.{_++_}
 use Rattle.report.proofs.Fill.{emitted-append, emitted-same}
 use Rattle.symbols.specs.Ascii.{ascii}
 use Rattle.report.specs.Report.{graphLine}
-use Rattle.lines.specs.Format.{counted}
-use Rattle.lines.proofs.Pieces.{perfect-none, perfect-some, clean-text}
+use Rattle.report.specs.Counts.{counted}
+use Rattle.report.proofs.Pieces.{perfect-none, perfect-some, clean-text}
 use borrow.Author.Needs.{needs}
-use Rattle.lines.proofs.format.put_graph.Statement.{statement}
-use Rattle.lines.proofs.format.put_graph.Tie as tie
+use Rattle.report.proofs.counts.put_graph.Statement.{statement}
+use Rattle.report.proofs.counts.put_graph.Tie as tie
 
 add-if1 : tie.Need-add-if1
 add-if1 c = search needs

@@ -1,12 +1,12 @@
--- `lines::format::put_top` meets its contract. Assumes nothing.
+-- `report::counts::put_top` meets its contract. Assumes nothing.
 use native.Mathlib.Omega.{arith}
-use mathlib.Core.List.{List, [], _∷_, _++_}
-use Rattle.report.proofs.Fill.{emitted-append, emitted-same}
+use mathlib.Core.List.{_++_}
+use Rattle.report.proofs.Fill.{emitted-append}
 use Rattle.symbols.specs.Ascii.{ascii}
-use Rattle.lines.specs.Format.{counted, countLine, topText}
+use Rattle.report.specs.Counts.{counted, countLine, topText}
 use borrow.Author.Needs.{needs}
-use Rattle.lines.proofs.format.put_top.Statement.{statement}
-use Rattle.lines.proofs.format.put_top.Tie as tie
+use Rattle.report.proofs.counts.put_top.Statement.{statement}
+use Rattle.report.proofs.counts.put_top.Tie as tie
 
 slice-aggregate-put-counted : tie.Need-slice-aggregate-put-counted
 slice-aggregate-put-counted c = search needs

@@ -1,13 +1,12 @@
--- `lines::format::put_counted` meets its contract. Assumes nothing.
+-- `report::counts::put_counted` meets its contract. Assumes nothing.
 use native.Mathlib.Omega.{arith}
-use mathlib.Core.List.{List, [], _∷_, _++_}
-use Rattle.report.proofs.Fill.{emitted-append, emitted-same}
+use Rattle.report.proofs.Fill.{emitted-append}
 use Rattle.report.specs.Decimal.{decimal}
 use Rattle.report.proofs.Decimal.{decimal-length}
-use Rattle.lines.specs.Format.{counted}
+use Rattle.report.specs.Counts.{counted}
 use borrow.Author.Needs.{needs}
-use Rattle.lines.proofs.format.put_counted.Statement.{statement}
-use Rattle.lines.proofs.format.put_counted.Tie as tie
+use Rattle.report.proofs.counts.put_counted.Statement.{statement}
+use Rattle.report.proofs.counts.put_counted.Tie as tie
 
 put-bytes-requires : tie.Need-put-bytes-requires
 put-bytes-requires c κs = search needs

@@ -1,10 +1,9 @@
 -- Two heads in an image by their marks: which verdict they have.
-use Prim.Native.Nat.{ℕ, suc, _+_, _<_, _≤_, zero-le}
+use Prim.Native.Nat.{ℕ, suc, _<_, _≤_, zero-le}
 use native.Mathlib.Omega.{arith}
 use mathlib.Core.Path.{_≡_, refl, sym, ap, ap₂, _∙_, subst}
 use mathlib.Core.List.{List}
-use lib.ListN.{length, drop, getD, length-drop}
-use lib.Seq.{drop-drop}
+use lib.ListN.{length, drop, getD}
 use Rattle.image.specs.Syntax.{character, identifier, number, s-kind, t-kind, e-kind, Terms, nil, symbol, variable, bracket, call, block}
 use Rattle.image.specs.Bytes.{put32, putSpan}
 use Rattle.image.specs.Encode.{putTerms}
@@ -16,8 +15,8 @@ use Rattle.symbols.specs.Parts.{SymbolAt}
 use Rattle.symbols.proofs.Parts.{part-rest}
 use Rattle.overlap.specs.declared.Verdict.the-variants.{Disjoint, Overlap}
 use Rattle.overlap.specs.Search.{One, View, view, literalOverlap, start, overlapOfTerms, sequence}
-use Rattle.overlap.specs.Parts.{HeadAt}
-use Rattle.overlap.proofs.Readings.{part, headMark, viewMark, pattern-mark, term-room}
+use Rattle.overlap.specs.Parts.{HeadAt, PatternIn, HeadIn}
+use Rattle.overlap.proofs.Readings.{part, headMark, viewMark, pattern-mark, term-room, tail-part}
 
 -- What stands in the bytes of a head; no call and no block stands in a pattern.
 abbrev HeadBytes : List ℕ → One → Type 0
@@ -178,13 +177,6 @@ module _ {a b : List ℕ} (x : HeadAt a) (y : HeadAt b) where
   unfolding overlapOfTerms
   two-literals m n = ap₂ (overlapOfTerms sequence) (m .is) (n .is)
 
--- The same at places of a body: what a bracket holds, and a symbol at the start of the part from there.
-abbrev pub inner-in : (b : List ℕ) (p : ℕ) {x : HeadAt (drop p b)} → BracketAt x → TermsAt Mode.pattern (drop (p + 9) b)
-inner-in b p k = record { terms = k .inner .terms; rest = k .inner .rest; is = sym (drop-drop 9 p b) ∙ sym (part-rest (drop p b) 9) ∙ k .inner .is; valid = k .inner .valid }
-
-abbrev pub symbol-in : (b : List ℕ) (p : ℕ) → SymbolAt (drop p b) → SymbolAt (part b p)
-symbol-in b p k = record { span = k .span; symbol = k .symbol; rest = k .rest; is = part-rest b p ∙ k .is; valid = k .valid }
-
--- A head is in the body.
-pub head-inside : (b : List ℕ) (p : ℕ) → HeadAt (drop p b) → p + 9 < length b
-head-inside b p x = omega (arith, head-room x, length-drop p b)
+-- What a bracket in a tail holds.
+abbrev pub inner-in : {b s : List ℕ} (h : HeadIn b s) → BracketAt (h .head) → PatternIn b (part s 9)
+inner-in h k = record { tail = tail-part (h .tail) 9 (omega (arith, head-room (h .head))); pattern = k .inner }

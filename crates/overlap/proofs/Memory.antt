@@ -1,6 +1,5 @@
 -- What is remembered stays true, whatever is written in a table or on the stack.
-use Prim.Native.Nat.{ℕ, _+_, _-_, _*_, _/_, _%_, _<_, _≤_}
-use native.Mathlib.Nat.{add-zero}
+use Prim.Native.Nat.{ℕ, _+_, _*_, _/_, _%_, _<_, _≤_}
 use native.Mathlib.Omega.{arith}
 use mathlib.Core.Path.{_≡_, refl, sym, ap, subst, _∙_}
 use mathlib.Core.Bool.{Bool, true, false}
@@ -8,17 +7,17 @@ use mathlib.Core.List.{List}
 use mathlib.Core.Logic.{_⊎_, inl, inr, ⊎-elim}
 use lib.Dec.{eqb}
 use lib.ListN.{length, getD, drop, set, length-set}
-use lib.Seq.{getD-set-same, getD-set-other, getD-drop}
+use lib.Seq.{getD-set-same, getD-set-other}
 use borrow.Author.Tests.{eqb-true, eqb-false}
 use Rattle.image.specs.Encode.{putTerms}
 use Rattle.image.specs.Limits.{Mode}
 use Rattle.image.specs.Parts.{Passes, TermsAt, tail}
-use Rattle.symbols.proofs.Parts.{part-rest}
 use Rattle.overlap.specs.declared.Verdict.{Verdict}
 use Rattle.overlap.specs.declared.Room.{Room}
 use Rattle.overlap.specs.Search.{absorbingSplit, sequence, patternsOverlap}
+use Rattle.overlap.specs.Parts.{TailOf, placeOf}
 use Rattle.overlap.specs.Memory.{Truthful, keyOf, codeOf, PairTold, EndTold, SplitTold, costing, Remembers, Searched, Lends, Recalled, Noted, tables}
-use Rattle.overlap.proofs.Readings.{part, at-part}
+use Rattle.overlap.proofs.Readings.{in-body, on-tail}
 
 -- ---- a slot is written, or none
 
@@ -146,7 +145,7 @@ module _ (b : List ℕ) (n : ℕ) where
       → (v : Verdict) × (n % 4 ≡ codeOf v) × ((f : ℕ) → absorbingSplit sequence f (x .terms) (y .terms) ≡ costing (n / 4) v f)
 
   abbrev pub EndIs : ℕ → Type 0
-  EndIs p = (x : TermsAt Mode.pattern (drop p b)) → (p ≤ n) × Passes (drop p b) (n - p) (putTerms (tail (x .terms)) (x .rest))
+  EndIs p = (x : TermsAt Mode.pattern (drop p b)) → Passes (drop p b) n (putTerms (tail (x .terms)) (x .rest))
 
   pub pair-told-from : (p q : ℕ) → p < 32768 → q < 32768 → PairIs p q → PairTold b (keyOf p q) n
   pair-told-from p q l m h p' q' l' m' e = at-key PairIs p q p' q' l m l' m' e h
@@ -208,13 +207,11 @@ module _ {b m : List ℕ} {r : Room} where
   pub beginning-written : (top : ℕ) → Remembers b m r → top < r .begun → (v : ℕ) → Searched b r top m (set m (r .frames + top) v)
   beginning-written top h u v = entry-set top (r .frames + top) h (omega arith) (omega (arith, u)) (λ f. omega arith) v
 
--- ---- the place after a term
+-- ---- the length of a term
 
-pub not-closed : (b : List ℕ) (p : ℕ) → (getD b p 0 ≡ 15 → ⊥) → getD (part b p) 0 0 ≡ 15 → ⊥
-not-closed b p n e = n (ap (λ (k : ℕ). getD b k 0) (sym (add-zero p)) ∙ (sym (getD-drop p b 0 0) ∙ (ap (λ (l : List ℕ). getD l 0 0) (sym (part-rest b p)) ∙ e)))
+module _ {b s : List ℕ} (t : TailOf b s) (n : ℕ) where
+  pub end-in : ((x : TermsAt Mode.pattern s) → Passes s n (putTerms (tail (x .terms)) (x .rest))) → EndIs b n (placeOf b s)
+  end-in h x = subst (λ (l : List ℕ). Passes l n (putTerms (tail (x .terms)) (x .rest))) (t .is) (h (on-tail t x))
 
-pub end-at : (b : List ℕ) (p n : ℕ) → ((m : Mode) (t : TermsAt m (part b p)) → Passes (part b p) n (putTerms (tail (t .terms)) (t .rest))) → EndIs b (p + n) p
-end-at b p n h x =
-    let k : n ≡ p + n - p = omega arith in
-    let rest = putTerms (tail (x .terms)) (x .rest) in
-    (omega arith, subst (λ (i : ℕ). Passes (drop p b) i rest) k (subst (λ (l : List ℕ). Passes l n rest) (part-rest b p) (h Mode.pattern (at-part b p x))))
+  pub end-on : EndIs b n (placeOf b s) → (x : TermsAt Mode.pattern s) → Passes s n (putTerms (tail (x .terms)) (x .rest))
+  end-on h x = subst (λ (l : List ℕ). Passes l n (putTerms (tail (x .terms)) (x .rest))) (sym (t .is)) (h (in-body t x))

@@ -8,7 +8,6 @@ use mathlib.Core.Logic.{_⊎_, ⊎-elim}
 use lib.Dec.{eqb}
 use borrow.Author.Tests.{eqb-true}
 use lib.ListN.{length, getD, drop}
-use lib.Seq.{getD-drop, drop-drop}
 use Rattle.image.specs.Syntax.{Terms}
 use Rattle.image.specs.Encode.{putTerms}
 use Rattle.image.specs.Limits.{Mode}
@@ -20,6 +19,7 @@ use Rattle.overlap.specs.declared.Room.{Room}
 use Rattle.overlap.specs.declared.search.Opening.{Opening}
 use Rattle.overlap.specs.Search.{found, View, view, ends, afterSplit, splitsFrom, absorbingSplit, sequence}
 use Rattle.overlap.specs.Steps.{isOverlap, remembered, behind, behindVerdict, endedBy}
+use Rattle.overlap.specs.Parts.{behindPlaces, PatternIn}
 use Rattle.overlap.specs.Memory.{codeOf, costing, Searched}
 use Rattle.overlap.specs.Stack.{restOf, otherOf, headsOf, soFarOf, firstOf, fuelOf, continued, resumed, Began, Plugs, plugs-none, plugs-split, InTurn, Rises, Pushed, Closes, isOut}
 use Rattle.image.proofs.Readings.{one-reading}
@@ -29,29 +29,8 @@ use Rattle.overlap.proofs.Fuel.{splits-without, sequence-spends}
 use Rattle.overlap.proofs.Costs.{split-told, split-spends}
 use Rattle.overlap.proofs.Memory.{split-told-from}
 use Rattle.overlap.proofs.Values.{value-code, value-cost}
-use Rattle.overlap.proofs.Readings.{inside, is-empty, is-not-empty, tail-valid}
+use Rattle.overlap.proofs.Readings.{part, inside, moved, at-part, pattern-at, after-term, mark-in, is-empty, is-not-empty}
 use Rattle.overlap.proofs.Turns.{ends-first, ends-last, ends-more}
-
--- ---- patterns by their places
-
--- A pattern stands at a place by whatever name.
-abbrev pub moved : (b : List ℕ) (i j : ℕ) → i ≡ j → TermsAt Mode.pattern (drop j b) → TermsAt Mode.pattern (drop i b)
-moved b i j e x = record { terms = x .terms; rest = x .rest; is = ap (λ (k : ℕ). drop k b) e ∙ x .is; valid = x .valid }
-
-pub mark-at : (b : List ℕ) (k : ℕ) → getD (drop k b) 0 0 ≡ getD b k 0
-mark-at b k = getD-drop k b 0 0 ∙ ap (λ (n : ℕ). getD b n 0) (omega arith)
-
-pub place-after : (p r : ℕ) → p ≤ r → r ≡ p + (r - p)
-place-after p r l = omega (arith, l)
-
--- The pattern after a term.
-abbrev pub after-term : (b : List ℕ) (p r : ℕ) (x : TermsAt Mode.pattern (drop p b)) → (p ≤ r) × Passes (drop p b) (r - p) (putTerms (tail (x .terms)) (x .rest)) → TermsAt Mode.pattern (drop r b)
-after-term b p r x h = record {
-  terms = tail (x .terms);
-  rest = x .rest;
-  is = ap (λ (n : ℕ). drop n b) (place-after p r (h .0)) ∙ sym (drop-drop (r - p) p b) ∙ h .1 .left;
-  valid = tail-valid (x .terms) Mode.pattern 0 (x .valid);
-}
 
 -- ---- verdicts of a split
 
@@ -144,7 +123,7 @@ resumed-is h x y q = refl
 
 -- ---- all open splits
 
-pub plugs-above : {b m : List ℕ} {r : Room} {base from t : ℕ} {q w : Found} → Plugs b m r base from t q w → base ≤ t
+pub plugs-above : {b m : List ℕ} {r : Room} {base bytes t : ℕ} {q w : Found} → Plugs b m r base bytes t q w → base ≤ t
 plugs-above plugs-none = omega arith
 plugs-above (plugs-split l f x y g p) = omega (arith, l)
 
@@ -154,9 +133,9 @@ began-as {b = b} {h = h} {g' = g'} {x = x} {y = y} {q = q} e f n =
     subst (λ (k : ℕ). Began b k g' x y q) (sym e) (subst (λ (k : ℕ). Began b h k x y q) (sym f) n)
 
 -- A split on top of those that are open.
-pub plugs-on : {b m : List ℕ} {r : Room} {base from t i j : ℕ} {q w : Found} → base ≤ t → restOf (getD m t 0) ≡ i → otherOf (getD m t 0) ≡ j → from < i + j
+pub plugs-on : {b m : List ℕ} {r : Room} {base bytes t i j : ℕ} {q w : Found} → base ≤ t → restOf (getD m t 0) ≡ i → otherOf (getD m t 0) ≡ j → behindPlaces b i j < bytes
     → (x : TermsAt Mode.pattern (drop i b)) (y : TermsAt Mode.pattern (drop j b)) → (t < r .begun → Began b (getD m t 0) (getD m (r .frames + t) 0) (x .terms) (y .terms) q)
-    → Plugs b m r base from t (resumed (getD m t 0) (x .terms) (y .terms) q) w → Plugs b m r base from (suc t) q w
+    → Plugs b m r base bytes t (resumed (getD m t 0) (x .terms) (y .terms) q) w → Plugs b m r base bytes (suc t) q w
 plugs-on {b = b} {m = m} {t = t} {i = i} {j = j} l ei ej f x y g p =
     plugs-split l (omega (arith, f, ei, ej)) (moved b (restOf (getD m t 0)) i ei x) (moved b (otherOf (getD m t 0)) j ej y) g p
 
@@ -171,29 +150,29 @@ alike-less l a = record { splits = λ k h. a .splits k (omega (arith, h, l)); be
 pub alike-searched : {b m n : List ℕ} {r : Room} {t : ℕ} → Searched b r t m n → Alike r t m n
 alike-searched s = record { splits = s .below; beginnings = s .beginnings }
 
-pub plugs-same : {b m n : List ℕ} {r : Room} {base from t : ℕ} {q w : Found} → Alike r t m n → Plugs b m r base from t q w → Plugs b n r base from t q w
+pub plugs-same : {b m n : List ℕ} {r : Room} {base bytes t : ℕ} {q w : Found} → Alike r t m n → Plugs b m r base bytes t q w → Plugs b n r base bytes t q w
 plugs-same h plugs-none = plugs-none
-plugs-same {b = b} {m = m} {n = n} {r = r} {base = base} {from = from} h (plugs-split {t = t} {q = q} {w = w} l f x y g p) =
+plugs-same {b = b} {m = m} {n = n} {r = r} {base = base} {bytes = bytes} h (plugs-split {t = t} {q = q} {w = w} l f x y g p) =
     let e : getD n t 0 ≡ getD m t 0 = h .splits t (omega arith) in
     plugs-on l (ap restOf e) (ap otherOf e) f x y (λ u. began-as e (h .beginnings t (omega arith) u) (g u))
-    (subst (λ (g : ℕ). Plugs b n r base from t (resumed g (x .terms) (y .terms) q) w) (sym e) (plugs-same (alike-less (omega arith) h) p))
+    (subst (λ (g : ℕ). Plugs b n r base bytes t (resumed g (x .terms) (y .terms) q) w) (sym e) (plugs-same (alike-less (omega arith) h) p))
 
 -- The split at the entry k, which is the topmost, and those below it.
-pub record SplitAt (b m : List ℕ) (r : Room) (base from k : ℕ) (q w : Found) : Type 0 where
+pub record SplitAt (b m : List ℕ) (r : Room) (base bytes k : ℕ) (q w : Found) : Type 0 where
   pub above : base ≤ k
-  pub further : from < restOf (getD m k 0) + otherOf (getD m k 0)
+  pub further : behindPlaces b (restOf (getD m k 0)) (otherOf (getD m k 0)) < bytes
   pub rest : TermsAt Mode.pattern (drop (restOf (getD m k 0)) b)
   pub other : TermsAt Mode.pattern (drop (otherOf (getD m k 0)) b)
   pub began : k < r .begun → Began b (getD m k 0) (getD m (r .frames + k) 0) (rest .terms) (other .terms) q
-  pub plugs : Plugs b m r base from k (resumed (getD m k 0) (rest .terms) (other .terms) q) w
+  pub plugs : Plugs b m r base bytes k (resumed (getD m k 0) (rest .terms) (other .terms) q) w
 
-pub plugs-top : {b m : List ℕ} {r : Room} {base from t : ℕ} {q w : Found} (k : ℕ) → Plugs b m r base from t q w → t ≡ suc k → base < t → SplitAt b m r base from k q w
+pub plugs-top : {b m : List ℕ} {r : Room} {base bytes t : ℕ} {q w : Found} (k : ℕ) → Plugs b m r base bytes t q w → t ≡ suc k → base < t → SplitAt b m r base bytes k q w
 plugs-top k plugs-none e l = absurd (omega (arith, l))
-plugs-top {b = b} {m = m} {r = r} {base = base} {from = from} {q = q} {w = w} k (plugs-split {t = t} a f x y g p) e l =
+plugs-top {b = b} {m = m} {r = r} {base = base} {bytes = bytes} {q = q} {w = w} k (plugs-split {t = t} a f x y g p) e l =
     let z : t ≡ k = omega (arith, e) in
-    subst (λ (j : ℕ). SplitAt b m r base from j q w) z (record { above = a; further = f; rest = x; other = y; began = g; plugs = p })
+    subst (λ (j : ℕ). SplitAt b m r base bytes j q w) z (record { above = a; further = f; rest = x; other = y; began = g; plugs = p })
 
-module _ {b m : List ℕ} {r : Room} {base from k fuel : ℕ} {v : Verdict} {w : Found} (s : SplitAt b m r base from k (found v fuel) w) where
+module _ {b m : List ℕ} {r : Room} {base bytes k fuel : ℕ} {v : Verdict} {w : Found} (s : SplitAt b m r base bytes k (found v fuel) w) where
   -- An answer that ends the topmost split.
   abbrev Ends : Type 0
   Ends = (getD b (otherOf (getD m k 0)) 0 ≡ 15) ⊎ (isOverlap v ≡ true)
@@ -201,13 +180,13 @@ module _ {b m : List ℕ} {r : Room} {base from k fuel : ℕ} {v : Verdict} {w :
   continued-ended : Ends → continued (getD m k 0) (s .rest .terms) (s .other .terms) (found v fuel) ≡ found (endedBy (soFarOf (getD m k 0)) v) fuel
   continued-ended =
       ⊎-elim
-      (λ e. continued-last (getD m k 0) (s .rest .terms) (s .other .terms) v fuel (is-empty (s .other) (mark-at b (otherOf (getD m k 0)) ∙ e)))
+      (λ e. continued-last (getD m k 0) (s .rest .terms) (s .other .terms) v fuel (is-empty (at-part b (otherOf (getD m k 0)) (s .other)) (mark-in b (otherOf (getD m k 0)) ∙ e)))
       (λ e. continued-overlap (getD m k 0) (s .rest .terms) (s .other .terms) v fuel e)
 
   -- It is plugged into those below.
-  pub plugs-ended : Ends → Plugs b m r base from k (found (behindVerdict (headsOf (getD m k 0)) (endedBy (soFarOf (getD m k 0)) v)) fuel) w
+  pub plugs-ended : Ends → Plugs b m r base bytes k (found (behindVerdict (headsOf (getD m k 0)) (endedBy (soFarOf (getD m k 0)) v)) fuel) w
   plugs-ended h =
-      subst (λ (q : Found). Plugs b m r base from k q w) (behind-resumed (getD m k 0) (s .rest .terms) (s .other .terms) v fuel (continued-ended h)) (s .plugs)
+      subst (λ (q : Found). Plugs b m r base bytes k q w) (behind-resumed (getD m k 0) (s .rest .terms) (s .other .terms) v fuel (continued-ended h)) (s .plugs)
 
   abbrev beginning : ℕ
   beginning = getD m (r .frames + k) 0
@@ -235,16 +214,17 @@ module _ {b m : List ℕ} {r : Room} {base from k fuel : ℕ} {v : Verdict} {w :
       ))
 
 -- Any other answer brings the next end of the topmost split in turn: n holds the split with that end.
-pub plugs-next : {b m n : List ℕ} {r : Room} {base from k fuel next : ℕ} {v : Verdict} {w : Found} (s : SplitAt b m r base from k (found v fuel) w) → isOverlap v ≡ false
-    → (getD b (otherOf (getD m k 0)) 0 ≡ 15 → ⊥) → (otherOf (getD m k 0) ≤ next) × Passes (drop (otherOf (getD m k 0)) b) (next - otherOf (getD m k 0)) (putTerms (tail (s .other .terms)) (s .other .rest))
-    → restOf (getD n k 0) ≡ restOf (getD m k 0) → otherOf (getD n k 0) ≡ next → headsOf (getD n k 0) ≡ headsOf (getD m k 0) → soFarOf (getD n k 0) ≡ remembered (soFarOf (getD m k 0)) v
-    → Alike r k m n → (k < r .begun → getD n (r .frames + k) 0 ≡ getD m (r .frames + k) 0) → InTurn b n r base from (suc k) fuel w
-plugs-next {b = b} {m = m} {n = n} {r = r} {base = base} {from = from} {k = k} {fuel = fuel} {next = next} {v = v} {w = w} s o z t er eo eh es below start =
+pub plugs-next : {b m n : List ℕ} {r : Room} {base bytes k fuel size : ℕ} {v : Verdict} {w : Found} (s : SplitAt b m r base bytes k (found v fuel) w) → isOverlap v ≡ false
+    → (getD b (otherOf (getD m k 0)) 0 ≡ 15 → ⊥) → Passes (part b (otherOf (getD m k 0))) size (putTerms (tail (s .other .terms)) (s .other .rest))
+    → restOf (getD n k 0) ≡ restOf (getD m k 0) → otherOf (getD n k 0) ≡ otherOf (getD m k 0) + size → headsOf (getD n k 0) ≡ headsOf (getD m k 0) → soFarOf (getD n k 0) ≡ remembered (soFarOf (getD m k 0)) v
+    → Alike r k m n → (k < r .begun → getD n (r .frames + k) 0 ≡ getD m (r .frames + k) 0) → InTurn b n r base bytes (suc k) fuel w
+plugs-next {b = b} {m = m} {n = n} {r = r} {base = base} {bytes = bytes} {k = k} {fuel = fuel} {size = size} {v = v} {w = w} s o z t er eo eh es below start =
     let x = s .rest in
-    let y = after-term b (otherOf (getD m k 0)) next (s .other) t in
-    let f : from < restOf (getD m k 0) + next = omega (arith, s .further, t .0) in
+    let next = otherOf (getD m k 0) + size in
+    let y = after-term b (otherOf (getD m k 0)) size (s .other) t in
+    let f : behindPlaces b (restOf (getD m k 0)) next < bytes = omega (arith, s .further) in
     let turn : continued (getD m k 0) (x .terms) (s .other .terms) (found v fuel) ≡ continued (getD n k 0) (x .terms) (y .terms) (sequence fuel (x .terms) (y .terms)) =
-    continued-next (getD m k 0) (getD n k 0) (x .terms) (s .other .terms) v fuel o (is-not-empty (s .other) (λ e. z (sym (mark-at b (otherOf (getD m k 0))) ∙ e))) es in
+    continued-next (getD m k 0) (getD n k 0) (x .terms) (s .other .terms) v fuel o (is-not-empty (at-part b (otherOf (getD m k 0)) (s .other)) (λ e. z (sym (mark-in b (otherOf (getD m k 0))) ∙ e))) es in
     let began : k < r .begun → Began b (getD n k 0) (getD n (r .frames + k) 0) (x .terms) (y .terms) (sequence fuel (x .terms) (y .terms)) =
     λ u. began-as refl (start u) (record { first = s .began u .first; whole = s .began u .whole ∙ turn }) in
     record {
@@ -255,12 +235,12 @@ plugs-next {b = b} {m = m} {n = n} {r = r} {base = base} {from = from} {k = k} {
       rest = moved b (restOf (getD n k 0)) (restOf (getD m k 0)) er x;
       other = moved b (otherOf (getD n k 0)) next eo y;
       plugs = plugs-on (s .above) er eo f x y began
-          (subst (λ (q : Found). Plugs b n r base from k q w)
+          (subst (λ (q : Found). Plugs b n r base bytes k q w)
           (resumed-is (getD m k 0) (x .terms) (s .other .terms) (found v fuel) ∙ resumed-as (headsOf (getD m k 0)) (getD n k 0) (x .terms) (y .terms) (continued (getD m k 0) (x .terms) (s .other .terms) (found v fuel)) (sequence fuel (x .terms) (y .terms)) eh turn)
           (plugs-same below (s .plugs)));
     }
 
-pub plugs-all : {b m : List ℕ} {r : Room} {base from t : ℕ} {q w : Found} → Plugs b m r base from t q w → t ≤ base → w ≡ q
+pub plugs-all : {b m : List ℕ} {r : Room} {base bytes t : ℕ} {q w : Found} → Plugs b m r base bytes t q w → t ≤ base → w ≡ q
 plugs-all plugs-none l = refl
 plugs-all (plugs-split a f x y g p) l = absurd (omega (arith, a, l))
 
@@ -273,15 +253,15 @@ resumed-out h x y = ap (behind (headsOf h)) (splits-without (drop 1 (ends y)) x)
     go true = refl
     go false = refl
 
-pub plugs-out : {b m : List ℕ} {r : Room} {base from t : ℕ} {q w : Found} → Plugs b m r base from t q w → q ≡ found Unknown 0 → w ≡ found Unknown 0
+pub plugs-out : {b m : List ℕ} {r : Room} {base bytes t : ℕ} {q w : Found} → Plugs b m r base bytes t q w → q ≡ found Unknown 0 → w ≡ found Unknown 0
 plugs-out plugs-none e = e
 plugs-out (plugs-split {t = t} a f x y g p) e = plugs-out p (ap (resumed _ (x .terms) (y .terms)) e ∙ resumed-out _ (x .terms) (y .terms))
 
 -- A split is opened for the pair in turn; the entries below the top are as they were.
-pub plugs-pushed : {b m n : List ℕ} {r : Room} {base from near top fuel : ℕ} {x y : Terms} {o : Opening} {w : Found} → (p : Pushed b n r top fuel near x y o) → from ≤ near → base ≤ top
-    → Alike r top m n → Plugs b m r base from top (sequence fuel x y) w
-    → Plugs b n r base from (suc top) (sequence (o .fuel) (p .opens .rest .terms) (p .opens .other .terms)) w
-plugs-pushed {b = b} {n = n} {r = r} {base = base} {from = from} {top = top} {o = o} {w = w} p l a h d =
+pub plugs-pushed : {b m n : List ℕ} {r : Room} {base bytes near top fuel : ℕ} {x y : Terms} {o : Opening} {w : Found} → (p : Pushed b n r top fuel near x y o) → near ≤ bytes → base ≤ top
+    → Alike r top m n → Plugs b m r base bytes top (sequence fuel x y) w
+    → Plugs b n r base bytes (suc top) (sequence (o .fuel) (p .opens .rest .terms) (p .opens .other .terms)) w
+plugs-pushed {b = b} {n = n} {r = r} {base = base} {bytes = bytes} {top = top} {o = o} {w = w} p l a h d =
     let s = p .opens in
     let i = p .entered in
     let g = getD n (r .frames + top) 0 in
@@ -291,35 +271,37 @@ plugs-pushed {b = b} {n = n} {r = r} {base = base} {from = from} {top = top} {o 
       first = moved b (firstOf g) (o .other) (i .beginning-is u .0) (s .other);
       whole = ap (λ (f : ℕ). absorbingSplit sequence f (s .rest .terms) (s .other .terms)) (i .beginning-is u .1) ∙ opened;
     })
-    (subst (λ (q : Found). Plugs b n r base from top q w)
+    (subst (λ (q : Found). Plugs b n r base bytes top q w)
     (s .whole ∙ resumed-as (o .heads) (getD n top 0) (s .rest .terms) (s .other .terms) (absorbingSplit sequence (o .fuel) (s .rest .terms) (s .other .terms)) (sequence (o .fuel) (s .rest .terms) (s .other .terms)) (i .heads-is) opened)
     (plugs-same h d))
 
 -- ---- the pair in turn
 
--- Patterns at i and j are in turn, and w is the answer in the end.
-pub record Going (b m : List ℕ) (r : Room) (base from i j left top : ℕ) (w : Found) : Type 0 where
-  pub first : TermsAt Mode.pattern (drop i b)
-  pub second : TermsAt Mode.pattern (drop j b)
-  pub plugs : Plugs b m r base from top (sequence left (first .terms) (second .terms)) w
+-- The patterns of the tails x and y are in turn, and w is the answer in the end.
+pub record Going (b m : List ℕ) (r : Room) (base bytes : ℕ) (x y : List ℕ) (left top : ℕ) (w : Found) : Type 0 where
+  pub first : PatternIn b x
+  pub second : PatternIn b y
+  pub plugs : Plugs b m r base bytes top (sequence left (first .pattern .terms) (second .pattern .terms)) w
 
-pub going-pushed : {b m n : List ℕ} {r : Room} {base from near i j left top : ℕ} {o : Opening} {w : Found} (g : Going b m r base from i j left top w) → Pushed b n r top left near (g .first .terms) (g .second .terms) o
-    → from ≤ near → base ≤ top → Alike r top m n → Going b n r base from (o .rest) (o .other) (o .fuel) (suc top) w
-going-pushed g p l a h = record { first = p .opens .rest; second = p .opens .other; plugs = plugs-pushed p l a h (g .plugs) }
+pub going-pushed : {b m n : List ℕ} {r : Room} {base bytes near : ℕ} {x y : List ℕ} {left top : ℕ} {o : Opening} {w : Found} (g : Going b m r base bytes x y left top w)
+    → Pushed b n r top left near (g .first .pattern .terms) (g .second .pattern .terms) o → near ≤ bytes → base ≤ top → Alike r top m n
+    → Going b n r base bytes (part b (o .rest)) (part b (o .other)) (o .fuel) (suc top) w
+going-pushed {b = b} {o = o} g p l a h = record { first = pattern-at b (o .rest) (p .opens .rest); second = pattern-at b (o .other) (p .opens .other); plugs = plugs-pushed p l a h (g .plugs) }
 
 -- The answer q to the pair in turn can be plugged in.
-pub going-ended : {b m n : List ℕ} {r : Room} {base from i j left top : ℕ} {w : Found} (g : Going b m r base from i j left top w) (q : Found) → q ≡ sequence left (g .first .terms) (g .second .terms)
-    → Alike r top m n → Plugs b n r base from top q w
-going-ended {b = b} {n = n} {r = r} {base = base} {from = from} {top = top} {w = w} g q e h = subst (λ (z : Found). Plugs b n r base from top z w) (sym e) (plugs-same h (g .plugs))
+pub going-ended : {b m n : List ℕ} {r : Room} {base bytes : ℕ} {x y : List ℕ} {left top : ℕ} {w : Found} (g : Going b m r base bytes x y left top w) (q : Found)
+    → q ≡ sequence left (g .first .pattern .terms) (g .second .pattern .terms)
+    → Alike r top m n → Plugs b n r base bytes top q w
+going-ended {b = b} {n = n} {r = r} {base = base} {bytes = bytes} {top = top} {w = w} g q e h = subst (λ (z : Found). Plugs b n r base bytes top z w) (sym e) (plugs-same h (g .plugs))
 
 -- An answer that has left all splits, or has another end in turn.
-pub rises-out : {b m : List ℕ} {r : Room} {base from top fuel : ℕ} {v : Verdict} {w : Found} → Rises b m r base from top v fuel w → top ≡ base → w ≡ found v fuel
+pub rises-out : {b m : List ℕ} {r : Room} {base bytes top fuel : ℕ} {v : Verdict} {w : Found} → Rises b m r base bytes top v fuel w → top ≡ base → w ≡ found v fuel
 rises-out h e = ⊎-elim (λ x. x .1) (λ n. absurd (omega (arith, e, n .is, n .above))) h
 
-pub rises-on : {b m : List ℕ} {r : Room} {base from top fuel : ℕ} {v : Verdict} {w : Found} → Rises b m r base from top v fuel w → (top ≡ base → ⊥) → InTurn b m r base from top fuel w
+pub rises-on : {b m : List ℕ} {r : Room} {base bytes top fuel : ℕ} {v : Verdict} {w : Found} → Rises b m r base bytes top v fuel w → (top ≡ base → ⊥) → InTurn b m r base bytes top fuel w
 rises-on h d = ⊎-elim (λ x. absurd (d (x .0))) (λ n. n) h
 
-module _ {b m : List ℕ} {r : Room} {base from top fuel : ℕ} {w : Found} (n : InTurn b m r base from top fuel w) (k i j : ℕ) (e : top ≡ suc k) (ei : i ≡ restOf (getD m k 0)) (ej : j ≡ otherOf (getD m k 0)) where
+module _ {b m : List ℕ} {r : Room} {base bytes top fuel : ℕ} {w : Found} (n : InTurn b m r base bytes top fuel w) (k i j : ℕ) (e : top ≡ suc k) (ei : i ≡ restOf (getD m k 0)) (ej : j ≡ otherOf (getD m k 0)) where
   same-split : k ≡ n .split
   same-split = omega (arith, e, n .is)
 
@@ -329,13 +311,13 @@ module _ {b m : List ℕ} {r : Room} {base from top fuel : ℕ} {w : Found} (n :
   second-place : j ≡ otherOf (getD m (n .split) 0)
   second-place = ej ∙ ap (λ (s : ℕ). otherOf (getD m s 0)) same-split
 
-  pub in-turn-further : from < i + j
+  pub in-turn-further : behindPlaces b i j < bytes
   in-turn-further = omega (arith, n .further, first-place, second-place)
 
-  pub in-turn-going : Going b m r base from i j fuel top w
+  pub in-turn-going : Going b m r base bytes (part b i) (part b j) fuel top w
   in-turn-going = record {
-    first = moved b i (restOf (getD m (n .split) 0)) first-place (n .rest);
-    second = moved b j (otherOf (getD m (n .split) 0)) second-place (n .other);
+    first = pattern-at b i (moved b i (restOf (getD m (n .split) 0)) first-place (n .rest));
+    second = pattern-at b j (moved b j (otherOf (getD m (n .split) 0)) second-place (n .other));
     plugs = n .plugs;
   }
 

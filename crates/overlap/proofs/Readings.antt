@@ -1,7 +1,7 @@
 -- Patterns in an image by their first mark, and the pattern after the first term.
 use Prim.Native.Nat.{ℕ, _+_, _-_, _<_, _≤_}
 use native.Mathlib.Omega.{arith}
-use mathlib.Core.Path.{_≡_, refl, sym, ap, subst, _∙_}
+use mathlib.Core.Path.{_≡_, refl, sym, ap, _∙_}
 use mathlib.Core.List.{List}
 use lib.ListN.{length, take, drop, getD, length-drop}
 use lib.Seq.{drop-drop, getD-drop}
@@ -13,7 +13,7 @@ use Rattle.image.specs.Parts.{Passes, TermsAt, tail}
 use Rattle.image.proofs.Lengths.{span-length, name-length, symbol-length, terms-length}
 use Rattle.symbols.proofs.Parts.{part-rest}
 use Rattle.overlap.specs.Search.{One, View, view}
-use Rattle.overlap.specs.Parts.{HeadAt}
+use Rattle.overlap.specs.Parts.{TailOf, placeOf, HeadAt, PatternIn, HeadIn}
 
 -- What the part `&s[i..]` holds.
 abbrev pub part : List ℕ → ℕ → List ℕ
@@ -169,44 +169,49 @@ inside b p x = omega (arith, pattern-room x, length-drop p b)
 abbrev pub at-part : (b : List ℕ) (p : ℕ) → TermsAt Mode.pattern (drop p b) → TermsAt Mode.pattern (part b p)
 at-part b p x = record { terms = x .terms; rest = x .rest; is = part-rest b p ∙ x .is; valid = x .valid }
 
+-- A pattern stands at a place by whatever name.
+abbrev pub moved : (b : List ℕ) (i j : ℕ) → i ≡ j → TermsAt Mode.pattern (drop j b) → TermsAt Mode.pattern (drop i b)
+moved b i j e x = record { terms = x .terms; rest = x .rest; is = ap (λ (k : ℕ). drop k b) e ∙ x .is; valid = x .valid }
+
+-- The part of a tail from k on, and that of the body from a place on.
+pub tail-part : {b s : List ℕ} → TailOf b s → (k : ℕ) → k ≤ length s → TailOf b (part s k)
+tail-part {b} {s} t k l =
+    let e : placeOf b s + k ≡ placeOf b (part s k) = omega (arith, part-length s k, t .fits) in
+    record { fits = omega (arith, part-length s k, t .fits); is = part-rest s k ∙ ap (drop k) (t .is) ∙ drop-drop k (placeOf b s) b ∙ ap (λ (n : ℕ). drop n b) e }
+
+pub tail-at : (b : List ℕ) (p : ℕ) → p ≤ length b → TailOf b (part b p)
+tail-at b p l =
+    let e : p ≡ placeOf b (part b p) = omega (arith, part-length b p) in
+    record { fits = omega (arith, part-length b p); is = part-rest b p ∙ ap (λ (n : ℕ). drop n b) e }
+
+abbrev pub pattern-at : (b : List ℕ) (p : ℕ) → TermsAt Mode.pattern (drop p b) → PatternIn b (part b p)
+pattern-at b p x = record { tail = tail-at b p (omega (arith, inside b p x)); pattern = at-part b p x }
+
+-- What stands at the start of a tail stands at its place, and back.
+abbrev pub in-body : {b s : List ℕ} → TailOf b s → TermsAt Mode.pattern s → TermsAt Mode.pattern (drop (placeOf b s) b)
+in-body t x = record { terms = x .terms; rest = x .rest; is = sym (t .is) ∙ x .is; valid = x .valid }
+
+abbrev pub on-tail : {b s : List ℕ} → TailOf b s → TermsAt Mode.pattern (drop (placeOf b s) b) → TermsAt Mode.pattern s
+on-tail t x = record { terms = x .terms; rest = x .rest; is = t .is ∙ x .is; valid = x .valid }
+
+-- A place of a tail with a pattern is small, since the body is.
+pub place-small : {b s : List ℕ} → PatternIn b s → length b ≤ 32768 → placeOf b s < 32768
+place-small p l = omega (arith, l, p .tail .fits, pattern-room (p .pattern))
+
+-- The pattern after the first term of a tail, which n bytes hold.
+abbrev pub next-in : {b s : List ℕ} (p : PatternIn b s) (n : ℕ) → Passes s n (putTerms (tail (p .pattern .terms)) (p .pattern .rest)) → PatternIn b (part s n)
+next-in p n h = record { tail = tail-part (p .tail) n (h .fits); pattern = rest-at (p .pattern) n h }
+
+abbrev pub head-in : {b s : List ℕ} (p : PatternIn b s) → (getD s 0 0 ≡ 15 → ⊥) → (getD s 0 0 ≡ 6 → ⊥) → HeadIn b s
+head-in p m n = record { tail = p .tail; head = head-at (p .pattern) m n }
+
+-- The same by places: the length of a term in the part from a place gives the place after it.
+pub place-after : (b : List ℕ) (i n : ℕ) (p : TermsAt Mode.pattern (drop i b)) → Passes (part b i) n (putTerms (tail (p .terms)) (p .rest)) → drop (i + n) b ≡ putTerms (tail (p .terms)) (p .rest)
+place-after b i n p h = sym (drop-drop n i b) ∙ sym (ap (drop n) (part-rest b i)) ∙ h .left
+
+abbrev pub after-term : (b : List ℕ) (i n : ℕ) (p : TermsAt Mode.pattern (drop i b)) → Passes (part b i) n (putTerms (tail (p .terms)) (p .rest)) → TermsAt Mode.pattern (drop (i + n) b)
+after-term b i n p h = record { terms = tail (p .terms); rest = p .rest; is = place-after b i n p h; valid = tail-valid (p .terms) Mode.pattern 0 (p .valid) }
+
 -- The first mark of what stands at a place.
-pub mark-in : (b : List ℕ) (i : ℕ) → getD (drop i b) 0 0 ≡ getD b i 0
-mark-in b i = getD-drop i b 0 0 ∙ ap (λ (k : ℕ). getD b k 0) (omega arith)
-
--- The same as above of a pattern at a place.
-module _ (b : List ℕ) (i : ℕ) (p : TermsAt Mode.pattern (drop i b)) where
-  pub empty-in : getD b i 0 ≡ 15 → view (p .terms) ≡ View.nothing
-  empty-in m = is-empty p (mark-in b i ∙ m)
-
-  pub not-empty-in : (getD b i 0 ≡ 15 → ⊥) → view (p .terms) ≡ View.nothing → ⊥
-  not-empty-in m = is-not-empty p (λ e. m (sym (mark-in b i) ∙ e))
-
-  pub absorbing-in : getD b i 0 ≡ 6 → view (p .terms) ≡ View.absorbing (tail (p .terms))
-  absorbing-in m = is-absorbing p (mark-in b i ∙ m)
-
-  pub one-head-in : (getD b i 0 ≡ 15 → ⊥) → (getD b i 0 ≡ 6 → ⊥) → (x : One) × (view (p .terms) ≡ View.one x (tail (p .terms)))
-  one-head-in m n = one-head p (λ e. m (sym (mark-in b i) ∙ e)) (λ e. n (sym (mark-in b i) ∙ e))
-
-  abbrev pub head-in : (getD b i 0 ≡ 15 → ⊥) → (getD b i 0 ≡ 6 → ⊥) → HeadAt (drop i b)
-  head-in m n = record { pattern = p; head = one-head-in m n .0; rest = tail (p .terms); is = one-head-in m n .1 }
-
-  -- The pattern after its first term, which ends at the place r.
-  abbrev pub next-in : (r : ℕ) → i ≤ r → Passes (drop i b) (r - i) (putTerms (tail (p .terms)) (p .rest)) → TermsAt Mode.pattern (drop r b)
-  next-in r l h = record { terms = tail (p .terms); rest = p .rest; is = next-is r l h; valid = tail-valid (p .terms) Mode.pattern 0 (p .valid) }
-    where
-      next-is : (r : ℕ) → i ≤ r → Passes (drop i b) (r - i) (putTerms (tail (p .terms)) (p .rest)) → drop r b ≡ putTerms (tail (p .terms)) (p .rest)
-      next-is r l h = ap (λ (k : ℕ). drop k b) (sum r l) ∙ sym (drop-drop (r - i) i b) ∙ h .left
-        where
-          sum : (r : ℕ) → i ≤ r → r ≡ i + (r - i)
-          sum r l = omega arith
-
-  pub next-later : (getD b i 0 ≡ 15 → ⊥) → (r : ℕ) → i ≤ r → Passes (drop i b) (r - i) (putTerms (tail (p .terms)) (p .rest)) → i < r
-  next-later m r l h = omega (arith, term-long p (λ e. m (sym (mark-in b i) ∙ e)) (r - i) h)
-
--- The length of a term in the part from a place gives the place after it.
-pub place-after : (b : List ℕ) (i n : ℕ) (p : TermsAt Mode.pattern (drop i b)) → Passes (part b i) n (putTerms (tail (p .terms)) (p .rest))
-    → (i ≤ i + n) × Passes (drop i b) (i + n - i) (putTerms (tail (p .terms)) (p .rest))
-place-after b i n p h = (omega arith, record { fits = subst (λ (k : ℕ). k ≤ length (drop i b)) same (rw (sym (ap length (part-rest b i))) (h .fits)); left = subst (λ (k : ℕ). drop k (drop i b) ≡ putTerms (tail (p .terms)) (p .rest)) same (sym (ap (drop n) (part-rest b i)) ∙ h .left) })
-  where
-    same : n ≡ i + n - i
-    same = omega arith
+pub mark-in : (b : List ℕ) (i : ℕ) → getD (part b i) 0 0 ≡ getD b i 0
+mark-in b i = ap (λ (l : List ℕ). getD l 0 0) (part-rest b i) ∙ getD-drop i b 0 0 ∙ ap (λ (k : ℕ). getD b k 0) (omega arith)

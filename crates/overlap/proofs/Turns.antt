@@ -1,10 +1,10 @@
 -- The search one turn of its loops at a time: the invariant is that what is left answers as the whole.
 use Prim.Native.Nat.{ℕ, suc, _+_, _-_, _<_, _≤_}
 use native.Mathlib.Omega.{arith}
-use mathlib.Core.Path.{_≡_, refl, sym, ap, _∙_}
+use mathlib.Core.Path.{_≡_, refl, sym, ap, subst, _∙_}
 use mathlib.Core.Bool.{true, false, true≢false}
 use mathlib.Core.List.{List, [], _∷_}
-use lib.ListN.{drop, getD}
+use lib.ListN.{length, getD}
 use Rattle.image.specs.Syntax.{s-kind, t-kind, e-kind, Terms, nil, symbol, variable, bracket, call, block}
 use Rattle.image.specs.Encode.{putTerms}
 use Rattle.image.specs.Limits.{Mode}
@@ -14,10 +14,12 @@ use Rattle.overlap.specs.declared.Verdict.the-variants.{Disjoint, Overla
 use Rattle.overlap.specs.declared.Found.{Found}
 use Rattle.overlap.specs.Search.{found, View, view, leftoverOverlap, ends, afterSplit, splitsFrom, absorbingSplit, overlapOfTerms, afterUnknown, afterHeads, sequence}
 use Rattle.overlap.specs.Steps.{isOverlap, isDisjoint, remembered, behind}
-use Rattle.overlap.specs.Stack.{Opens}
+use Rattle.overlap.specs.declared.search.Opening.{Opening}
+use Rattle.overlap.specs.Parts.{placeOf, PatternIn}
+use Rattle.overlap.specs.Stack.{Opened, Opens}
 use Rattle.overlap.proofs.Unfold.{no-fuel, absorbing-begins, one-begins, leftover-view, empty-first, empty-second, first-absorbs, second-absorbs, heads-compared}
 use Rattle.overlap.proofs.Verdicts.{disjoint≢unknown}
-use Rattle.overlap.proofs.Readings.{part, is-empty, is-absorbing, one-head, next-at, empty-in, not-empty-in, absorbing-in, one-head-in, next-in, next-later}
+use Rattle.overlap.proofs.Readings.{part, part-length, is-empty, is-not-empty, is-absorbing, one-head, next-at, term-long, moved, in-body, next-in}
 
 -- The terms from i on can stand for nothing exactly if all of them can.
 pub record Leaving (s : List ℕ) (i : ℕ) (p : TermsAt Mode.pattern s) : Type 0 where
@@ -68,12 +70,29 @@ behind-unknown Disjoint f n = absurd (n refl)
 behind-unknown Overlap f n = refl
 behind-unknown Unknown f n = refl
 
--- The heads so far have been passed; the two sequences from i and j on answer, behind them, as the whole.
-pub record Reached (b : List ℕ) (fuel i j left : ℕ) (heads : Verdict) (p q : Terms) : Type 0 where
-  pub first : TermsAt Mode.pattern (drop i b)
-  pub second : TermsAt Mode.pattern (drop j b)
+-- The split at the first term of the tail x, against y, has its places in the body.
+opens : (b : List ℕ) (fuel bytes : ℕ) (p q : Terms) (x y : List ℕ) (heads : Verdict) (left : ℕ) (u : PatternIn b x) (v : PatternIn b y) → (getD x 0 0 ≡ 15 → ⊥) → (heads ≡ Disjoint → ⊥)
+    → left < fuel → length x + length y ≤ bytes → (z : Opening) → Opened b x y left heads (putTerms (tail (u .pattern .terms)) (u .pattern .rest)) z
+    → sequence fuel p q ≡ behind heads (absorbingSplit sequence left (tail (u .pattern .terms)) (v .pattern .terms)) → Opens b fuel bytes p q z
+opens b fuel bytes p q x y heads left u v m g l o z h e =
+    let n = h .size in
+    let k = next-in u n (h .passes) in
+    let i : placeOf b x + n ≡ placeOf b (part x n) = omega (arith, part-length x n, u .tail .fits, h .passes .fits) in
+    subst (λ (w : Opening). Opens b fuel bytes p q w) (sym (h .is)) (record {
+      rest = moved b (placeOf b x + n) (placeOf b (part x n)) i (in-body (k .tail) (k .pattern));
+      other = in-body (v .tail) (v .pattern);
+      going = g;
+      less = l;
+      further = omega (arith, o, term-long (u .pattern) m n (h .passes), h .passes .fits, u .tail .fits, v .tail .fits);
+      whole = e;
+    })
+
+-- The heads so far have been passed; the two sequences that x and y start with answer, behind them, as the whole.
+pub record Reached (b : List ℕ) (fuel : ℕ) (x y : List ℕ) (left : ℕ) (heads : Verdict) (p q : Terms) : Type 0 where
+  pub first : PatternIn b x
+  pub second : PatternIn b y
   pub going : heads ≡ Disjoint → ⊥
-  pub whole : sequence fuel p q ≡ behind heads (sequence left (first .terms) (second .terms))
+  pub whole : sequence fuel p q ≡ behind heads (sequence left (first .pattern .terms) (second .pattern .terms))
 
 six-open : {m : ℕ} → m ≡ 6 → m ≡ 15 → ⊥
 six-open e h = omega arith
@@ -81,82 +100,70 @@ six-open e h = omega arith
 less-one : (f : ℕ) → 0 < f → f ≡ suc (f - 1)
 less-one f h = omega arith
 
-module _ {b : List ℕ} {fuel i j left : ℕ} {heads : Verdict} {p q : Terms} (r : Reached b fuel i j left heads p q) where
+module _ {b : List ℕ} {fuel : ℕ} {x y : List ℕ} {left : ℕ} {heads : Verdict} {p q : Terms} (r : Reached b fuel x y left heads p q) where
+  abbrev a : Terms
+  a = r .first .pattern .terms
+
+  abbrev c : Terms
+  c = r .second .pattern .terms
+
   pub reached-out : left ≤ 0 → sequence fuel p q ≡ found Unknown 0
   reached-out l =
       let z : left ≡ 0 = omega arith in
-      r .whole ∙ ap (λ (f : ℕ). behind heads (sequence f (r .first .terms) (r .second .terms))) z ∙ ap (behind heads) (no-fuel (r .first .terms) (r .second .terms)) ∙ behind-unknown heads 0 (r .going)
+      r .whole ∙ ap (λ (f : ℕ). behind heads (sequence f a c)) z ∙ ap (behind heads) (no-fuel a c) ∙ behind-unknown heads 0 (r .going)
 
   module _ (l : 0 < left) where
-    turn : (w : Found) → sequence (suc (left - 1)) (r .first .terms) (r .second .terms) ≡ w → sequence fuel p q ≡ behind heads w
-    turn w e = r .whole ∙ ap (λ (f : ℕ). behind heads (sequence f (r .first .terms) (r .second .terms))) (less-one left l) ∙ ap (behind heads) e
+    turn : (w : Found) → sequence (suc (left - 1)) a c ≡ w → sequence fuel p q ≡ behind heads w
+    turn w e = r .whole ∙ ap (λ (f : ℕ). behind heads (sequence f a c)) (less-one left l) ∙ ap (behind heads) e
 
-    pub first-closed : getD b i 0 ≡ 15 → sequence fuel p q ≡ behind heads (found (leftoverOverlap (r .second .terms)) (left - 1))
-    first-closed m = turn _ (empty-first (left - 1) (r .first .terms) (r .second .terms) (empty-in b i (r .first) m))
+    pub first-closed : getD x 0 0 ≡ 15 → sequence fuel p q ≡ behind heads (found (leftoverOverlap c) (left - 1))
+    first-closed m = turn _ (empty-first (left - 1) a c (is-empty (r .first .pattern) m))
 
-    pub second-closed : getD b j 0 ≡ 15 → sequence fuel p q ≡ behind heads (found (leftoverOverlap (r .first .terms)) (left - 1))
-    second-closed m = turn _ (empty-second (left - 1) (r .first .terms) (r .second .terms) (empty-in b j (r .second) m))
+    pub second-closed : getD y 0 0 ≡ 15 → sequence fuel p q ≡ behind heads (found (leftoverOverlap a) (left - 1))
+    second-closed m = turn _ (empty-second (left - 1) a c (is-empty (r .second .pattern) m))
 
-    pub first-split : getD b i 0 ≡ 6 → (getD b j 0 ≡ 15 → ⊥)
-        → sequence fuel p q ≡ behind heads (absorbingSplit sequence (left - 1) (tail (r .first .terms)) (r .second .terms))
-    first-split m n = turn _ (first-absorbs (left - 1) (r .first .terms) (r .second .terms) (tail (r .first .terms)) (absorbing-in b i (r .first) m) (not-empty-in b j (r .second) n))
+    first-split : getD x 0 0 ≡ 6 → (getD y 0 0 ≡ 15 → ⊥) → sequence fuel p q ≡ behind heads (absorbingSplit sequence (left - 1) (tail a) c)
+    first-split m n = turn _ (first-absorbs (left - 1) a c (tail a) (is-absorbing (r .first .pattern) m) (is-not-empty (r .second .pattern) n))
 
-    pub second-split : (getD b i 0 ≡ 15 → ⊥) → (getD b i 0 ≡ 6 → ⊥) → getD b j 0 ≡ 6
-        → sequence fuel p q ≡ behind heads (absorbingSplit sequence (left - 1) (tail (r .second .terms)) (r .first .terms))
+    second-split : (getD x 0 0 ≡ 15 → ⊥) → (getD x 0 0 ≡ 6 → ⊥) → getD y 0 0 ≡ 6 → sequence fuel p q ≡ behind heads (absorbingSplit sequence (left - 1) (tail c) a)
     second-split m n k =
-        let x = one-head-in b i (r .first) m n in
-        turn _ (second-absorbs (left - 1) (r .first .terms) (r .second .terms) (tail (r .first .terms)) (tail (r .second .terms)) (x .0) (x .1) (absorbing-in b j (r .second) k))
+        let h = one-head (r .first .pattern) m n in
+        turn _ (second-absorbs (left - 1) a c (tail a) (tail c) (h .0) (h .1) (is-absorbing (r .second .pattern) k))
 
     -- Two heads, neither an `e.` variable nor a close, with the verdict v.
-    module _ (m : getD b i 0 ≡ 15 → ⊥) (n : getD b i 0 ≡ 6 → ⊥) (m′ : getD b j 0 ≡ 15 → ⊥) (n′ : getD b j 0 ≡ 6 → ⊥)
-        (v : Verdict) (e : v ≡ overlapOfTerms sequence (one-head-in b i (r .first) m n .0) (one-head-in b j (r .second) m′ n′ .0)) where
-      compared : sequence fuel p q ≡ behind heads (afterHeads v (left - 1) (λ g. sequence g (tail (r .first .terms)) (tail (r .second .terms))))
+    module _ (m : getD x 0 0 ≡ 15 → ⊥) (n : getD x 0 0 ≡ 6 → ⊥) (m′ : getD y 0 0 ≡ 15 → ⊥) (n′ : getD y 0 0 ≡ 6 → ⊥)
+        (v : Verdict) (e : v ≡ overlapOfTerms sequence (one-head (r .first .pattern) m n .0) (one-head (r .second .pattern) m′ n′ .0)) where
+      compared : sequence fuel p q ≡ behind heads (afterHeads v (left - 1) (λ g. sequence g (tail a) (tail c)))
       compared =
-          let x = one-head-in b i (r .first) m n in
-          let y = one-head-in b j (r .second) m′ n′ in
-          turn _ (heads-compared (left - 1) (r .first .terms) (r .second .terms) (tail (r .first .terms)) (tail (r .second .terms)) (x .0) (y .0) (x .1) (y .1)
-          ∙ ap (λ (w : Verdict). afterHeads w (left - 1) (λ g. sequence g (tail (r .first .terms)) (tail (r .second .terms)))) (sym e))
+          let h = one-head (r .first .pattern) m n in
+          let k = one-head (r .second .pattern) m′ n′ in
+          turn _ (heads-compared (left - 1) a c (tail a) (tail c) (h .0) (k .0) (h .1) (k .1)
+          ∙ ap (λ (w : Verdict). afterHeads w (left - 1) (λ g. sequence g (tail a) (tail c))) (sym e))
 
       pub heads-apart : isDisjoint v ≡ true → sequence fuel p q ≡ found Disjoint (left - 1)
       heads-apart h = compared ∙ behind-apart heads v (left - 1) _ (r .going) h
 
-      pub heads-passed : isDisjoint v ≡ false → (d : ℕ) → (i ≤ d) × Passes (drop i b) (d - i) (putTerms (tail (r .first .terms)) (r .first .rest))
-          → (c : ℕ) → (j ≤ c) × Passes (drop j b) (c - j) (putTerms (tail (r .second .terms)) (r .second .rest)) → Reached b fuel d c (left - 1) (remembered heads v) p q
-      heads-passed h d x c y = record {
-        first = next-in b i (r .first) d (x .0) (x .1);
-        second = next-in b j (r .second) c (y .0) (y .1);
+      pub heads-passed : isDisjoint v ≡ false → (i : ℕ) → Passes x i (putTerms (tail a) (r .first .pattern .rest)) → (j : ℕ) → Passes y j (putTerms (tail c) (r .second .pattern .rest))
+          → Reached b fuel (part x i) (part y j) (left - 1) (remembered heads v) p q
+      heads-passed h i d j k = record {
+        first = next-in (r .first) i d;
+        second = next-in (r .second) j k;
         going = still-going heads v (r .going);
         whole = compared ∙ behind-both heads v (left - 1) _ (r .going) h;
       }
 
-    -- One of the two is at an `e.` variable, which ends at the place n.
-    module _ {from : ℕ} (o : from ≤ i + j) (less : left ≤ fuel) where
-      pub first-opens : getD b i 0 ≡ 6 → (getD b j 0 ≡ 15 → ⊥) → (n : ℕ) → (i ≤ n) × Passes (drop i b) (n - i) (putTerms (tail (r .first .terms)) (r .first .rest))
-          → Opens b fuel from p q (record { rest = n; other = j; fuel = left - 1; heads = heads })
-      first-opens m k n h = record {
-        rest = next-in b i (r .first) n (h .0) (h .1);
-        other = r .second;
-        going = r .going;
-        less = omega arith;
-        further = omega (arith, next-later b i (r .first) (λ e. six-open m e) n (h .0) (h .1));
-        whole = first-split m k;
-      }
+    -- One of the two is at an `e.` variable.
+    module _ {bytes : ℕ} (o : length x + length y ≤ bytes) (less : left ≤ fuel) (z : Opening) where
+      pub first-opens : getD x 0 0 ≡ 6 → (getD y 0 0 ≡ 15 → ⊥) → Opened b x y (left - 1) heads (putTerms (tail a) (r .first .pattern .rest)) z → Opens b fuel bytes p q z
+      first-opens m n h = opens b fuel bytes p q x y heads (left - 1) (r .first) (r .second) (λ e. six-open m e) (r .going) (omega arith) o z h (first-split m n)
 
-      pub second-opens : (getD b i 0 ≡ 15 → ⊥) → (getD b i 0 ≡ 6 → ⊥) → getD b j 0 ≡ 6 → (n : ℕ) → (j ≤ n) × Passes (drop j b) (n - j) (putTerms (tail (r .second .terms)) (r .second .rest))
-          → Opens b fuel from p q (record { rest = n; other = i; fuel = left - 1; heads = heads })
-      second-opens m k g n h = record {
-        rest = next-in b j (r .second) n (h .0) (h .1);
-        other = r .first;
-        going = r .going;
-        less = omega arith;
-        further = omega (arith, next-later b j (r .second) (λ e. six-open g e) n (h .0) (h .1));
-        whole = second-split m k g;
-      }
+      pub second-opens : (getD x 0 0 ≡ 15 → ⊥) → (getD x 0 0 ≡ 6 → ⊥) → getD y 0 0 ≡ 6 → Opened b y x (left - 1) heads (putTerms (tail c) (r .second .pattern .rest)) z → Opens b fuel bytes p q z
+      second-opens m n k h = opens b fuel bytes p q y x heads (left - 1) (r .second) (r .first) (λ e. six-open k e) (r .going) (omega arith) (omega arith) z h (second-split m n k)
 
--- The splits so far have been tried; those from i on, with the verdict so far, answer as all.
-pub record Splitting (b : List ℕ) (fuel i left : ℕ) (verdict : Verdict) (p q : Terms) : Type 0 where
-  pub there : TermsAt Mode.pattern (drop i b)
-  pub whole : absorbingSplit sequence fuel p q ≡ splitsFrom sequence p (ends (there .terms)) verdict left
+-- The splits so far have been tried; those from the tail x on, with the verdict so far, answer as all.
+pub record Splitting (b : List ℕ) (fuel : ℕ) (x : List ℕ) (left : ℕ) (verdict : Verdict) (p q : Terms) : Type 0 where
+  pub there : PatternIn b x
+  pub whole : absorbingSplit sequence fuel p q ≡ splitsFrom sequence p (ends (there .pattern .terms)) verdict left
 
 split-overlap : (f : ℕ) (r o : Terms) (os : List Terms) (v : Verdict) (q : Found) → q ≡ sequence f r o → isOverlap (q .verdict) ≡ true → splitsFrom sequence r (o ∷ os) v f ≡ q
 unfolding splitsFrom
@@ -179,9 +186,9 @@ split-on f r o os v q e h =
     go Overlap h = absurd (true≢false h)
     go Unknown h = refl
 
-pub splitting-first : {b : List ℕ} (fuel i : ℕ) (p : Terms) (there : TermsAt Mode.pattern (drop i b)) → Splitting b fuel i fuel Disjoint p (there .terms)
+pub splitting-first : {b x : List ℕ} (fuel : ℕ) (p : Terms) (there : PatternIn b x) → Splitting b fuel x fuel Disjoint p (there .pattern .terms)
 unfolding absorbingSplit
-splitting-first fuel i p there = record { there = there; whole = refl }
+splitting-first fuel p there = record { there = there; whole = refl }
 
 pub ends-first : (t : Terms) → (os : List Terms) × (ends t ≡ t ∷ os)
 unfolding ends
@@ -212,27 +219,24 @@ ends-more (bracket s i r) h = refl
 ends-more (call s f a r) h = refl
 ends-more (block s a b r) h = refl
 
--- z is the answer on the split at i.
-module _ {b : List ℕ} {fuel i left : ℕ} {verdict : Verdict} {p q : Terms} (r : Splitting b fuel i left verdict p q)
-    (z : Found) (e : z ≡ sequence left p (r .there .terms)) where
-  from : (os : List Terms) → ends (r .there .terms) ≡ r .there .terms ∷ os
-      → absorbingSplit sequence fuel p q ≡ splitsFrom sequence p (r .there .terms ∷ os) verdict left
+-- z is the answer on the split at x.
+module _ {b : List ℕ} {fuel : ℕ} {x : List ℕ} {left : ℕ} {verdict : Verdict} {p q : Terms} (r : Splitting b fuel x left verdict p q)
+    (z : Found) (e : z ≡ sequence left p (r .there .pattern .terms)) where
+  abbrev o : Terms
+  o = r .there .pattern .terms
+
+  from : (os : List Terms) → ends o ≡ o ∷ os → absorbingSplit sequence fuel p q ≡ splitsFrom sequence p (o ∷ os) verdict left
   from os h = r .whole ∙ ap (λ (l : List Terms). splitsFrom sequence p l verdict left) h
 
   pub split-meets : isOverlap (z .verdict) ≡ true → absorbingSplit sequence fuel p q ≡ z
   split-meets h =
-      let f = ends-first (r .there .terms) in
-      from (f .0) (f .1) ∙ split-overlap left p (r .there .terms) (f .0) verdict z e h
+      let f = ends-first o in
+      from (f .0) (f .1) ∙ split-overlap left p o (f .0) verdict z e h
 
   module _ (h : isOverlap (z .verdict) ≡ false) where
-    pub split-ends : getD b i 0 ≡ 15 → absorbingSplit sequence fuel p q ≡ found (remembered verdict (z .verdict)) (z .fuel)
+    pub split-ends : getD x 0 0 ≡ 15 → absorbingSplit sequence fuel p q ≡ found (remembered verdict (z .verdict)) (z .fuel)
     unfolding splitsFrom
-    split-ends m = from [] (ends-last (r .there .terms) (empty-in b i (r .there) m)) ∙ split-on left p (r .there .terms) [] verdict z e h
+    split-ends m = from [] (ends-last o (is-empty (r .there .pattern) m)) ∙ split-on left p o [] verdict z e h
 
-    pub split-goes-on : (getD b i 0 ≡ 15 → ⊥) → (n : ℕ) → (i ≤ n) × Passes (drop i b) (n - i) (putTerms (tail (r .there .terms)) (r .there .rest))
-        → Splitting b fuel n (z .fuel) (remembered verdict (z .verdict)) p q
-    split-goes-on m n k = record {
-      there = next-in b i (r .there) n (k .0) (k .1);
-      whole = from (ends (tail (r .there .terms))) (ends-more (r .there .terms) (not-empty-in b i (r .there) m))
-          ∙ split-on left p (r .there .terms) (ends (tail (r .there .terms))) verdict z e h;
-    }
+    pub split-goes-on : (getD x 0 0 ≡ 15 → ⊥) → (n : ℕ) → Passes x n (putTerms (tail o) (r .there .pattern .rest)) → Splitting b fuel (part x n) (z .fuel) (remembered verdict (z .verdict)) p q
+    split-goes-on m n k = record { there = next-in (r .there) n k; whole = from (ends (tail o)) (ends-more o (is-not-empty (r .there .pattern) m)) ∙ split-on left p o (ends (tail o)) verdict z e h }

@@ -36,10 +36,9 @@ PairTold b k n =
     (p q : ℕ) → p < 32768 → q < 32768 → k ≡ keyOf p q → (x : TermsAt Mode.pattern (drop p b)) (y : TermsAt Mode.pattern (drop q b))
     → n ≡ codeOf (patternsOverlap (x .terms) (y .terms))
 
--- The place after a term.
+-- The length of a term.
 abbrev pub EndTold : List ℕ → ℕ → ℕ → Type 0
-EndTold b k n =
-    (p : ℕ) → k ≡ suc p → (x : TermsAt Mode.pattern (drop p b)) → (p ≤ n) × Passes (drop p b) (n - p) (putTerms (tail (x .terms)) (x .rest))
+EndTold b k n = (p : ℕ) → k ≡ suc p → (x : TermsAt Mode.pattern (drop p b)) → Passes (drop p b) n (putTerms (tail (x .terms)) (x .rest))
 
 -- A search that ends at a cost with a verdict: alike from every larger fuel, and out of fuel from every smaller one.
 unfoldable pub costing : ℕ → Verdict → ℕ → Found

@@ -133,14 +133,33 @@ pub fn patterns_overlap(b: &[u8], p: usize, q: usize, room: &mut [u32], lent: Ro
     ensures answers { λ r. ⌜ ((x : TermsAt Mode.pattern (drop p (now (b .entry)))) (y : TermsAt Mode.pattern (drop q (now (b .entry)))) → r ≡ sequence start (x .terms) (y .terms)) ⌝ }
     ensures keeps { λ _. ⌜ Searched (now (b .entry)) lent 0 (now (room .entry)) (now (room .exit)) ⌝ }
 {
-    search::sequence(b, p, q, OVERLAP_FUEL, NATIVE_DEPTH, 0, room, lent)
+    search::sequence(
+        b,
+        &b[p..],
+        &b[q..],
+        OVERLAP_FUEL,
+        NATIVE_DEPTH,
+        0,
+        room,
+        lent,
+    )
 }
 
-// The verdict alone, which is remembered as that of a bracket pair is.
+// The verdict alone, which is remembered as that of a bracket pair is. It is not `pair_overlap` that is called: with one caller,
+// that is compiled into the one function of the cycle.
 pub fn patterns_verdict(b: &[u8], p: usize, q: usize, room: &mut [u32], lent: Room) -> Verdict
     requires { ⌜ TermsAt Mode.pattern (drop p (now b)) × TermsAt Mode.pattern (drop q (now b)) × (length (now b) ≤ 32768) × Remembers (now b) (now room) lent ⌝ }
     ensures answers { λ r. ⌜ ((x : TermsAt Mode.pattern (drop p (now (b .entry)))) (y : TermsAt Mode.pattern (drop q (now (b .entry)))) → r ≡ patternsOverlap (x .terms) (y .terms)) ⌝ }
     ensures keeps { λ _. ⌜ Searched (now (b .entry)) lent 0 (now (room .entry)) (now (room .exit)) ⌝ }
 {
-    search::pair_overlap(b, p, q, NATIVE_DEPTH, 0, room, lent)
+    let left = &b[p..];
+    let right = &b[q..];
+    let known = search::recall_pair(b, left, right, room, lent);
+    if known != 0 {
+        return slots::verdict_of(known);
+    }
+    let found = search::sequence(b, left, right, OVERLAP_FUEL, NATIVE_DEPTH, 0, room, lent);
+    let verdict = found.verdict;
+    search::note_pair(b, left, right, verdict, room, lent);
+    verdict
 }

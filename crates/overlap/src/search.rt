@@ -19,19 +19,21 @@ use crate::stack::push;
 use crate::stack::rest_of;
 use crate::stack::unwind;
 use crate::terms::leftover_overlap;
-use crate::terms::term_end;
+use crate::terms::place_of;
+use crate::terms::term_size;
 use image::part::term_len;
 use symbols::same_symbol;
 ghost use mathlib.Core.Path.{_≡_};
 ghost use Prim.Native.Nat.{ℕ, _+_, _-_, _/_, _%_, _≤_};
-ghost use lib.ListN.{length, drop};
+ghost use lib.ListN.{length};
 ghost use Rattle.image.specs.Syntax.{Terms};
 ghost use Rattle.image.specs.Limits.{Mode};
-ghost use Rattle.image.specs.Parts.{TermsAt};
+ghost use Rattle.image.specs.Encode.{putTerms};
+ghost use Rattle.image.specs.Parts.{TermsAt, tail};
 ghost use Rattle.overlap.specs.Search.{absorbingSplit, overlapOfTerms, patternsOverlap, sequence};
-ghost use Rattle.overlap.specs.Parts.{HeadAt};
+ghost use Rattle.overlap.specs.Parts.{HeadAt, HeadIn, PatternIn, TailOf};
 ghost use Rattle.overlap.specs.Memory.{codeOf, costing, Lends, Searched};
-ghost use Rattle.overlap.specs.Stack.{Leads, Settled, Sound, isOut};
+ghost use Rattle.overlap.specs.Stack.{Leads, Opened, Settled, Sound, isOut};
 
 // A split behind some heads: what follows its `e.` variable, what that takes from, the fuel left, the heads' verdict.
 pub struct Opening {
@@ -47,51 +49,76 @@ pub enum Leading {
     Split(Opening),
 }
 
-// What two brackets hold, from p and q on: a fresh fuel, and the verdict is remembered.
-pub fn pair_overlap(
+// The number of the verdict that is remembered of two patterns, 0 if none is.
+pub fn recall_pair(b: &[u8], left: &[u8], right: &[u8], room: &[u32], lent: Room) -> u32
+    requires { ⌜ PatternIn (now b) (now left) × PatternIn (now b) (now right) × Lends (now b) (now room) lent 0 ⌝ }
+    ensures { λ r. ⌜ ((r ≡ 0 → ⊥) → (x : TermsAt Mode.pattern (now (left .entry))) (y : TermsAt Mode.pattern (now (right .entry))) → r ≡ codeOf (patternsOverlap (x .terms) (y .terms))) ⌝ }
+{
+    let from = lent.frames + lent.begun;
+    let key = key_of(place_of(b, left), place_of(b, right));
+    recall(room, from, lent.slots, key)
+}
+
+// Remembers the verdict of two patterns.
+pub fn note_pair(
     b: &[u8],
-    p: usize,
-    q: usize,
+    left: &[u8],
+    right: &[u8],
+    verdict: Verdict,
+    room: &mut [u32],
+    lent: Room,
+)
+    requires { ⌜ PatternIn (now b) (now left) × PatternIn (now b) (now right) × Lends (now b) (now room) lent 0 × ((x : TermsAt Mode.pattern (now left)) (y : TermsAt Mode.pattern (now right)) → verdict ≡ patternsOverlap (x .terms) (y .terms)) ⌝ }
+    ensures { λ _. ⌜ Searched (now (b .entry)) lent (lent .frames) (now (room .entry)) (now (room .exit)) ⌝ }
+{
+    let from = lent.frames + lent.begun;
+    let key = key_of(place_of(b, left), place_of(b, right));
+    note(room, from, lent.slots, key, code_of(verdict));
+}
+
+// What two brackets hold: a fresh fuel, and the verdict is remembered.
+fn pair_overlap<'a>(
+    b: &'a [u8],
+    left: &'a [u8],
+    right: &'a [u8],
     deep: u32,
     top: usize,
     room: &mut [u32],
     lent: Room,
 ) -> Verdict
-    requires { ⌜ TermsAt Mode.pattern (drop p (now b)) × TermsAt Mode.pattern (drop q (now b)) × Lends (now b) (now room) lent top ⌝ }
-    ensures answers { λ r. ⌜ ((x : TermsAt Mode.pattern (drop p (now (b .entry)))) (y : TermsAt Mode.pattern (drop q (now (b .entry)))) → r ≡ patternsOverlap (x .terms) (y .terms)) ⌝ }
+    requires { ⌜ PatternIn (now b) (now left) × PatternIn (now b) (now right) × Lends (now b) (now room) lent top ⌝ }
+    ensures answers { λ r. ⌜ ((x : TermsAt Mode.pattern (now (left .entry))) (y : TermsAt Mode.pattern (now (right .entry))) → r ≡ patternsOverlap (x .terms) (y .terms)) ⌝ }
     ensures keeps { λ _. ⌜ Searched (now (b .entry)) lent top (now (room .entry)) (now (room .exit)) ⌝ }
 {
-    let from = lent.frames + lent.begun;
-    let key = key_of(p, q);
-    let known = recall(room, from, lent.slots, key);
+    let known = recall_pair(b, left, right, room, lent);
     if known != 0 {
         return verdict_of(known);
     }
-    let found = sequence(b, p, q, OVERLAP_FUEL, deep, top, room, lent);
+    let found = sequence(b, left, right, OVERLAP_FUEL, deep, top, room, lent);
     let verdict = found.verdict;
-    note(room, from, lent.slots, key, code_of(verdict));
+    note_pair(b, left, right, verdict, room, lent);
     verdict
 }
 
 // The verdict on two heads, neither an `e.` variable, by their marks.
-fn overlap_of_terms(
-    b: &[u8],
-    p: usize,
-    q: usize,
+fn overlap_of_terms<'a>(
+    b: &'a [u8],
+    left: &'a [u8],
+    right: &'a [u8],
     deep: u32,
     top: usize,
     room: &mut [u32],
     lent: Room,
 ) -> Verdict
-    requires { ⌜ HeadAt (drop p (now b)) × HeadAt (drop q (now b)) × Lends (now b) (now room) lent top ⌝ }
-    ensures answers { λ r. ⌜ ((x : HeadAt (drop p (now (b .entry)))) (y : HeadAt (drop q (now (b .entry)))) → r ≡ overlapOfTerms sequence (x .head) (y .head)) ⌝ }
+    requires { ⌜ HeadIn (now b) (now left) × HeadIn (now b) (now right) × Lends (now b) (now room) lent top ⌝ }
+    ensures answers { λ r. ⌜ ((x : HeadAt (now (left .entry))) (y : HeadAt (now (right .entry))) → r ≡ overlapOfTerms sequence (x .head) (y .head)) ⌝ }
     ensures keeps { λ _. ⌜ Searched (now (b .entry)) lent top (now (room .entry)) (now (room .exit)) ⌝ }
 {
-    let m = b[p];
-    let n = b[q];
+    let m = left[0];
+    let n = right[0];
     if m == 7 {
         if n == 7 {
-            return pair_overlap(b, p + 9, q + 9, deep, top, room, lent);
+            return pair_overlap(b, &left[9..], &right[9..], deep, top, room, lent);
         }
         if n < 5 {
             return Verdict::Disjoint;
@@ -110,66 +137,67 @@ fn overlap_of_terms(
     if 3 < n {
         return Verdict::Overlap;
     }
-    literal_overlap(same_symbol(&b[p..], &b[q..]))
+    literal_overlap(same_symbol(left, right))
+}
+
+// The split at the `e.` variable that `s` starts with, against `other`.
+fn split_at(b: &[u8], s: &[u8], other: &[u8], fuel: u32, heads: Verdict) -> Opening
+    requires { ⌜ PatternIn (now b) (now s) × TailOf (now b) (now other) ⌝ }
+    ensures { λ r. ⌜ ((x : TermsAt Mode.pattern (now (s .entry))) → Opened (now (b .entry)) (now (s .entry)) (now (other .entry)) fuel heads (putTerms (tail (x .terms)) (x .rest)) r) ⌝ }
+{
+    let rest = place_of(b, s) + term_len(s);
+    Opening {
+        rest,
+        other: place_of(b, other),
+        fuel,
+        heads,
+    }
 }
 
 // The heads of two patterns in turn, until one is at its close or at an `e.` variable.
-fn heads(
-    b: &[u8],
-    p: usize,
-    q: usize,
+fn heads<'a>(
+    b: &'a [u8],
+    left: &'a [u8],
+    right: &'a [u8],
     fuel: u32,
     deep: u32,
     top: usize,
     room: &mut [u32],
     lent: Room,
 ) -> Leading
-    requires { ⌜ TermsAt Mode.pattern (drop p (now b)) × TermsAt Mode.pattern (drop q (now b)) × Lends (now b) (now room) lent top × (fuel ≤ 4096) ⌝ }
-    ensures leads { λ r. ⌜ ((x : TermsAt Mode.pattern (drop p (now (b .entry)))) (y : TermsAt Mode.pattern (drop q (now (b .entry)))) → Leads (now (b .entry)) fuel (p + q) (x .terms) (y .terms) r) ⌝ }
+    requires { ⌜ PatternIn (now b) (now left) × PatternIn (now b) (now right) × Lends (now b) (now room) lent top × (fuel ≤ 4096) ⌝ }
+    ensures leads { λ r. ⌜ ((x : TermsAt Mode.pattern (now (left .entry))) (y : TermsAt Mode.pattern (now (right .entry))) → Leads (now (b .entry)) fuel (length (now (left .entry)) + length (now (right .entry))) (x .terms) (y .terms) r) ⌝ }
     ensures keeps { λ _. ⌜ Searched (now (b .entry)) lent top (now (room .entry)) (now (room .exit)) ⌝ }
 {
-    let mut i = p;
-    let mut j = q;
-    let mut left = fuel;
+    let mut x = left;
+    let mut y = right;
+    let mut f = fuel;
     let mut heads = Verdict::Overlap;
-    while 0 < left {
-        left -= 1;
-        let m = b[i];
-        let n = b[j];
+    while 0 < f {
+        f -= 1;
+        let m = x[0];
+        let n = y[0];
         if m == 15 {
-            return Leading::Ended(behind_heads(heads, leftover_overlap(&b[j..]), left));
+            return Leading::Ended(behind_heads(heads, leftover_overlap(y), f));
         }
         if n == 15 {
-            return Leading::Ended(behind_heads(heads, leftover_overlap(&b[i..]), left));
+            return Leading::Ended(behind_heads(heads, leftover_overlap(x), f));
         }
         if m == 6 {
-            let rest = i + term_len(&b[i..]);
-            return Leading::Split(Opening {
-                rest: rest,
-                other: j,
-                fuel: left,
-                heads: heads,
-            });
+            return Leading::Split(split_at(b, x, y, f, heads));
         }
         if n == 6 {
-            let rest = j + term_len(&b[j..]);
-            return Leading::Split(Opening {
-                rest: rest,
-                other: i,
-                fuel: left,
-                heads: heads,
-            });
+            return Leading::Split(split_at(b, y, x, f, heads));
         }
-        let v = overlap_of_terms(b, i, j, deep, top, room, lent);
+        let v = overlap_of_terms(b, x, y, deep, top, room, lent);
         if is_disjoint(v) {
-            return Leading::Ended(Found {
-                verdict: Verdict::Disjoint,
-                fuel: left,
-            });
+            return Leading::Ended(behind_heads(Verdict::Disjoint, v, f));
         }
         heads = remember(heads, v);
-        i = term_end(b, i, room, lent);
-        j = term_end(b, j, room, lent);
+        let k = term_size(b, x, room, lent);
+        x = &x[k..];
+        let l = term_size(b, y, room, lent);
+        y = &y[l..];
     }
     Leading::Ended(Found {
         verdict: Verdict::Unknown,
@@ -178,39 +206,36 @@ fn heads(
 }
 
 // Every end of `other` before which an `e.` variable stands for the rest, the whole first.
-fn takes(
-    b: &[u8],
-    rest: usize,
-    other: usize,
+fn takes<'a>(
+    b: &'a [u8],
+    rest: &'a [u8],
+    other: &'a [u8],
     fuel: u32,
     deep: u32,
     top: usize,
     room: &mut [u32],
     lent: Room,
 ) -> Found
-    requires { ⌜ TermsAt Mode.pattern (drop rest (now b)) × TermsAt Mode.pattern (drop other (now b)) × Lends (now b) (now room) lent top × (fuel ≤ 4096) ⌝ }
-    ensures answers { λ r. ⌜ ((x : TermsAt Mode.pattern (drop rest (now (b .entry)))) (y : TermsAt Mode.pattern (drop other (now (b .entry)))) → r ≡ absorbingSplit sequence fuel (x .terms) (y .terms)) ⌝ }
+    requires { ⌜ PatternIn (now b) (now rest) × PatternIn (now b) (now other) × Lends (now b) (now room) lent top × (fuel ≤ 4096) ⌝ }
+    ensures answers { λ r. ⌜ ((x : TermsAt Mode.pattern (now (rest .entry))) (y : TermsAt Mode.pattern (now (other .entry))) → r ≡ absorbingSplit sequence fuel (x .terms) (y .terms)) ⌝ }
     ensures keeps { λ _. ⌜ Searched (now (b .entry)) lent top (now (room .entry)) (now (room .exit)) ⌝ }
 {
-    let mut i = other;
-    let mut left = fuel;
+    let mut x = other;
+    let mut f = fuel;
     let mut verdict = Verdict::Disjoint;
     loop {
-        let q = sequence(b, rest, i, left, deep, top, room, lent);
+        let q = sequence(b, rest, x, f, deep, top, room, lent);
         let v = q.verdict;
-        let f = q.fuel;
         if is_overlap(v) {
             return q;
         }
         verdict = remember(verdict, v);
-        left = f;
-        if b[i] == 15 {
-            return Found {
-                verdict,
-                fuel: left,
-            };
+        f = q.fuel;
+        if x[0] == 15 {
+            return Found { verdict, fuel: f };
         }
-        i = term_end(b, i, room, lent);
+        let k = term_size(b, x, room, lent);
+        x = &x[k..];
     }
 }
 
@@ -233,26 +258,26 @@ fn recalled(known: u32, fuel: u32) -> Found
 }
 
 // An `e.` variable before `rest`, against `other`. One that ends with fuel left is remembered with what it spent.
-fn absorbing_split(
-    b: &[u8],
-    rest: usize,
-    other: usize,
+fn absorbing_split<'a>(
+    b: &'a [u8],
+    rest: &'a [u8],
+    other: &'a [u8],
     fuel: u32,
     deep: u32,
     top: usize,
     room: &mut [u32],
     lent: Room,
 ) -> Found
-    requires { ⌜ TermsAt Mode.pattern (drop rest (now b)) × TermsAt Mode.pattern (drop other (now b)) × Lends (now b) (now room) lent top × (fuel ≤ 4096) ⌝ }
-    ensures answers { λ r. ⌜ ((x : TermsAt Mode.pattern (drop rest (now (b .entry)))) (y : TermsAt Mode.pattern (drop other (now (b .entry)))) → r ≡ absorbingSplit sequence fuel (x .terms) (y .terms)) ⌝ }
+    requires { ⌜ PatternIn (now b) (now rest) × PatternIn (now b) (now other) × Lends (now b) (now room) lent top × (fuel ≤ 4096) ⌝ }
+    ensures answers { λ r. ⌜ ((x : TermsAt Mode.pattern (now (rest .entry))) (y : TermsAt Mode.pattern (now (other .entry))) → r ≡ absorbingSplit sequence fuel (x .terms) (y .terms)) ⌝ }
     ensures keeps { λ _. ⌜ Searched (now (b .entry)) lent top (now (room .entry)) (now (room .exit)) ⌝ }
 {
     let found = takes(b, rest, other, fuel, deep, top, room, lent);
     let verdict = found.verdict;
-    let left = found.fuel;
-    if 0 < left {
-        let value = 4 * (fuel - left) + code_of(verdict);
-        let key = key_of(rest, other);
+    let f = found.fuel;
+    if 0 < f {
+        let value = 4 * (fuel - f) + code_of(verdict);
+        let key = key_of(place_of(b, rest), place_of(b, other));
         let from = lent.frames + lent.begun + 4 * lent.slots;
         note(room, from, lent.slots, key, value);
     }
@@ -271,7 +296,7 @@ fn shallower(deep: u32) -> u32
 // a struct that is copied whole stays in memory.
 fn settle(b: &[u8], h: Leading, deep: u32, top: usize, room: &mut [u32], lent: Room) -> Leading
     requires { ⌜ Sound (now b) h × Lends (now b) (now room) lent top ⌝ }
-    ensures leads { λ r. ⌜ ((fuel from : ℕ) (x y : Terms) → Leads (now (b .entry)) fuel from x y h → Settled (now (b .entry)) (now (room .exit)) lent top fuel from x y r) ⌝ }
+    ensures leads { λ r. ⌜ ((fuel bytes : ℕ) (x y : Terms) → Leads (now (b .entry)) fuel bytes x y h → Settled (now (b .entry)) (now (room .exit)) lent top fuel bytes x y r) ⌝ }
     ensures keeps { λ _. ⌜ Searched (now (b .entry)) lent top (now (room .entry)) (now (room .exit)) ⌝ }
 {
     match h {
@@ -298,7 +323,9 @@ fn settle(b: &[u8], h: Leading, deep: u32, top: usize, room: &mut [u32], lent: R
                 }
             }
             let less = shallower(deep);
-            let found = absorbing_split(b, o.rest, o.other, o.fuel, less, top, room, lent);
+            let rest = o.rest;
+            let other = o.other;
+            let found = absorbing_split(b, &b[rest..], &b[other..], o.fuel, less, top, room, lent);
             let verdict = found.verdict;
             Leading::Ended(behind_heads(heads, verdict, found.fuel))
         }
@@ -316,57 +343,59 @@ fn is_out(v: Verdict, fuel: u32) -> bool
     }
 }
 
-// Two patterns, from p and q on: the pair in turn, behind the splits that the stack has from `top` on. One function for both
-// ways of searching, so that a bracket level takes one frame.
-pub fn sequence(
-    b: &[u8],
-    p: usize,
-    q: usize,
+// Two patterns: the pair in turn, behind the splits that the stack has from `top` on. A split of the stack is resumed with the
+// tails at its places, and so the body lives as long as they. One function for both ways of searching, so that a bracket level
+// takes one frame.
+pub fn sequence<'a>(
+    b: &'a [u8],
+    left: &'a [u8],
+    right: &'a [u8],
     fuel: u32,
     deep: u32,
     top: usize,
     room: &mut [u32],
     lent: Room,
 ) -> Found
-    requires { ⌜ TermsAt Mode.pattern (drop p (now b)) × TermsAt Mode.pattern (drop q (now b)) × Lends (now b) (now room) lent top × (fuel ≤ 4096) ⌝ }
-    ensures answers { λ r. ⌜ ((x : TermsAt Mode.pattern (drop p (now (b .entry)))) (y : TermsAt Mode.pattern (drop q (now (b .entry)))) → r ≡ sequence fuel (x .terms) (y .terms)) ⌝ }
+    requires { ⌜ PatternIn (now b) (now left) × PatternIn (now b) (now right) × Lends (now b) (now room) lent top × (fuel ≤ 4096) ⌝ }
+    ensures answers { λ r. ⌜ ((x : TermsAt Mode.pattern (now (left .entry))) (y : TermsAt Mode.pattern (now (right .entry))) → r ≡ sequence fuel (x .terms) (y .terms)) ⌝ }
     ensures keeps { λ _. ⌜ Searched (now (b .entry)) lent top (now (room .entry)) (now (room .exit)) ⌝ }
 {
-    let mut i = p;
-    let mut j = q;
-    let mut left = fuel;
+    let mut x = left;
+    let mut y = right;
+    let mut f = fuel;
     let mut height = top;
     loop {
-        let h = heads(b, i, j, left, deep, height, room, lent);
+        let h = heads(b, x, y, f, deep, height, room, lent);
         let s = settle(b, h, deep, height, room, lent);
         match s {
             Leading::Split(o) => {
-                i = o.rest;
-                j = o.other;
-                left = o.fuel;
+                let i = o.rest;
+                let j = o.other;
+                x = &b[i..];
+                y = &b[j..];
+                f = o.fuel;
                 height += 1;
             }
             Leading::Ended(found) => {
-                left = found.fuel;
+                f = found.fuel;
                 let verdict = found.verdict;
-                if is_out(verdict, left) {
-                    return Found {
-                        verdict,
-                        fuel: left,
-                    };
+                if is_out(verdict, f) {
+                    return Found { verdict, fuel: f };
                 }
-                let up = unwind(b, verdict, left, top, height, room, lent);
+                let up = unwind(b, verdict, f, top, height, room, lent);
                 height = up.top;
                 if height == top {
                     let last = up.verdict;
                     return Found {
                         verdict: last,
-                        fuel: left,
+                        fuel: f,
                     };
                 }
                 let split = room[height - 1];
-                i = rest_of(split);
-                j = other_of(split);
+                let i = rest_of(split);
+                let j = other_of(split);
+                x = &b[i..];
+                y = &b[j..];
             }
         }
     }

@@ -8,7 +8,7 @@ use crate::remember;
 use crate::slots::code_of;
 use crate::slots::key_of;
 use crate::slots::note;
-use crate::terms::term_end;
+use crate::terms::term_size;
 ghost use mathlib.Core.Path.{_≡_};
 ghost use Prim.Native.Nat.{ℕ, _+_, _*_, _<_, _≤_};
 ghost use mathlib.Core.List.{List};
@@ -137,7 +137,7 @@ pub fn unwind(
     lent: Room,
 ) -> Up
     requires { ⌜ Lends (now b) (now room) lent start × (base ≤ start) × Stacked (now b) (now room) lent base start answer fuel ⌝ }
-    ensures rises { λ r. ⌜ ((from : ℕ) (w : Found) → Plugs (now (b .entry)) (now (room .entry)) lent base from start (found answer fuel) w → Rises (now (b .entry)) (now (room .exit)) lent base from (r .top) (r .verdict) fuel w) ⌝ }
+    ensures rises { λ r. ⌜ ((bytes : ℕ) (w : Found) → Plugs (now (b .entry)) (now (room .entry)) lent base bytes start (found answer fuel) w → Rises (now (b .entry)) (now (room .exit)) lent base bytes (r .top) (r .verdict) fuel w) ⌝ }
     ensures keeps { λ r. ⌜ Searched (now (b .entry)) lent base (now (room .entry)) (now (room .exit)) × (base ≤ r .top) × (r .top ≤ start) ⌝ }
 {
     let mut top = start;
@@ -148,7 +148,7 @@ pub fn unwind(
         let other = other_of(split);
         if !is_overlap(verdict) {
             if b[other] != 15 {
-                let next = term_end(b, other, room, lent);
+                let next = other + term_size(b, &b[other..], room, lent);
                 let so_far = remember(so_far_of(split), verdict);
                 room[k] = split_of(rest_of(split), next, heads_of(split), so_far);
                 return Up { top, verdict };

@@ -1,7 +1,7 @@
 -- `overlap::stack::unwind` meets its contract: at the loop's head the entries of open splits are still those of the start.
 use Prim.Native.Nat.{ℕ, suc, _+_, _-_, _<_, _≤_}
 use native.Mathlib.Omega.{arith}
-use mathlib.Core.Path.{_≡_, refl, sym, ap, ap₂, _∙_, subst}
+use mathlib.Core.Path.{_≡_, sym, ap, ap₂, _∙_, subst}
 use mathlib.Core.Bool.{true, false}
 use mathlib.Core.List.{List}
 use mathlib.Core.Logic.{_⊎_, inl, inr, ⊎-elim}
@@ -18,16 +18,16 @@ use Rattle.overlap.specs.Search.{found}
 use Rattle.overlap.specs.Steps.{isOverlap, remembered, behindVerdict, endedBy}
 use Rattle.overlap.specs.Memory.{Lends, Searched}
 use Rattle.overlap.specs.Stack.{restOf, otherOf, headsOf, soFarOf, Closes, Plugs, InTurn}
-use Rattle.overlap.proofs.Readings.{inside}
+use Rattle.overlap.proofs.Readings.{part, inside, moved, at-part, pattern-at, after-term, mark-in}
 use Rattle.overlap.proofs.Memory.{lends-less, searched-same, searched-then, searched-less, searched-lends, entry-written}
-use Rattle.overlap.proofs.Plugging.{moved, after-term, heads-going, so-far-apart, alike-less, alike-searched, plugs-same, SplitAt, plugs-top, plugs-ended, ended-spends, ended-closes, plugs-next, plugs-all}
+use Rattle.overlap.proofs.Plugging.{heads-going, so-far-apart, alike-less, alike-searched, plugs-same, SplitAt, plugs-top, plugs-ended, ended-spends, ended-closes, plugs-next, plugs-all}
 use Rattle.overlap.proofs.stack.unwind.Statement.{statement}
 use Rattle.overlap.proofs.stack.unwind.Tie as tie
 
 abbrev Inv-loop : tie.InvT-loop
 Inv-loop b fuel base start room₀ lent top₀ verdict₀ room top verdict =
     Searched b lent (lent .frames) room₀ room × (base ≤ top) × (top ≤ start)
-    × ((from : ℕ) (w : Found) → Plugs b room₀ lent base from start (found verdict₀ fuel) w → Plugs b room lent base from top (found verdict fuel) w)
+    × ((bytes : ℕ) (w : Found) → Plugs b room₀ lent base bytes start (found verdict₀ fuel) w → Plugs b room lent base bytes top (found verdict fuel) w)
 
 abbrev μ-loop : tie.MeasureT-loop
 μ-loop b fuel base start room₀ lent top₀ verdict₀ room top verdict = top
@@ -38,31 +38,31 @@ Loop = tie.At-loop Inv-loop μ-loop
 abbrev start-of : Loop → tie.Start Inv-loop μ-loop
 start-of h = h .before .before .before
 
-abbrev bytes : Loop → List ℕ
-bytes h = start-of h .args .b .now
+abbrev body : Loop → List ℕ
+body h = start-of h .args .b .now
 
 abbrev lent-to : Loop → Room
 lent-to h = start-of h .args .lent
 
 -- The topmost split, for every answer that can be plugged in.
-top-split : (h : Loop) → start-of h .args .base < h .loop .top → (from : ℕ) (w : Found)
-    → Plugs (bytes h) (start-of h .args .room .now) (lent-to h) (start-of h .args .base) from (start-of h .args .start) (found (start-of h .args .answer) (start-of h .args .fuel)) w
-    → SplitAt (bytes h) (h .loop .room) (lent-to h) (start-of h .args .base) from (h .loop .top - 1) (found (h .loop .verdict) (start-of h .args .fuel)) w
-top-split h l from w p = plugs-top (h .loop .top - 1) (h .loop .inv .3 from w p) (omega (arith, l)) l
+top-split : (h : Loop) → start-of h .args .base < h .loop .top → (bytes : ℕ) (w : Found)
+    → Plugs (body h) (start-of h .args .room .now) (lent-to h) (start-of h .args .base) bytes (start-of h .args .start) (found (start-of h .args .answer) (start-of h .args .fuel)) w
+    → SplitAt (body h) (h .loop .room) (lent-to h) (start-of h .args .base) bytes (h .loop .top - 1) (found (h .loop .verdict) (start-of h .args .fuel)) w
+top-split h l bytes w p = plugs-top (h .loop .top - 1) (h .loop .inv .3 bytes w p) (omega (arith, l)) l
 
 -- For the one that the function was given.
 given : (h : Loop) → start-of h .args .base < h .loop .top
-    → SplitAt (bytes h) (h .loop .room) (lent-to h) (start-of h .args .base) (start-of h .pre .2 .from) (h .loop .top - 1) (found (h .loop .verdict) (start-of h .args .fuel)) (start-of h .pre .2 .result)
-given h l = let s = start-of h .pre .2 in top-split h l (s .from) (s .result) (s .plugs)
+    → SplitAt (body h) (h .loop .room) (lent-to h) (start-of h .args .base) (start-of h .pre .2 .bytes) (h .loop .top - 1) (found (h .loop .verdict) (start-of h .args .fuel)) (start-of h .pre .2 .result)
+given h l = let s = start-of h .pre .2 in top-split h l (s .bytes) (s .result) (s .plugs)
 
-lends : (h : Loop) → Lends (bytes h) (h .loop .room) (lent-to h) (start-of h .args .start)
+lends : (h : Loop) → Lends (body h) (h .loop .room) (lent-to h) (start-of h .args .start)
 lends h = searched-lends (start-of h .pre .0) (h .loop .inv .0)
 
 within : (h : Loop) → h .loop .top ≤ length (h .loop .room)
 within h = let l = lends h in omega (arith, l .remembers .fits, l .within, h .loop .inv .2)
 
 loop-holds : tie.Need-loop-holds Inv-loop μ-loop
-loop-holds c = let s = c .before .before in (searched-same (s .pre .0 .remembers) (s .args .lent .frames), s .pre .1, omega arith, λ from w p. p)
+loop-holds c = let s = c .before .before in (searched-same (s .pre .0 .remembers) (s .args .lent .frames), s .pre .1, omega arith, λ bytes w p. p)
 
 sub-k : tie.Need-sub-k Inv-loop μ-loop
 sub-k c = omega (arith, c .loop-test .taken)
@@ -89,31 +89,49 @@ loop-of c = c .before .before .before
 abbrev split-of : Placed → ℕ
 split-of c = getD (loop-of c .loop .room) (loop-of c .loop .top - 1) 0
 
-other-there : (c : Placed) → TermsAt Mode.pattern (drop (c .other-of .result) (bytes (loop-of c)))
-other-there c = moved (bytes (loop-of c)) (c .other-of .result) (otherOf (split-of c)) (c .other-of .ensures .0) (given (loop-of c) (c .before .before .loop-test .taken) .other)
+other-there : (c : Placed) → TermsAt Mode.pattern (drop (c .other-of .result) (body (loop-of c)))
+other-there c = moved (body (loop-of c)) (c .other-of .result) (otherOf (split-of c)) (c .other-of .ensures .0) (given (loop-of c) (c .before .before .loop-test .taken) .other)
 
 shared-slice-read-if2 : tie.Need-shared-slice-read-if2 Inv-loop μ-loop
-shared-slice-read-if2 c = let d = c .before .before .before in inside (bytes (loop-of d)) (d .other-of .result) (other-there d)
+shared-slice-read-if2 c = let d = c .before .before .before in inside (body (loop-of d)) (d .other-of .result) (other-there d)
 
-term-end-requires : tie.Need-term-end-requires Inv-loop μ-loop
-term-end-requires c κs = let d = c .before .before .before .before .before in (other-there d, c .before .if2 .taken, lends-less (omega arith) (lends (loop-of d)))
+sub-term-size : tie.Need-sub-term-size Inv-loop μ-loop
+sub-term-size c = let d = (c .before .before .before .before) in omega (arith, inside (body (loop-of d)) (d .other-of .result) (other-there d))
 
--- What the place after a term says.
+part-term-size-start : tie.Need-part-term-size-start Inv-loop μ-loop
+part-term-size-start c = let d = (c .before .before .before .before) in omega (arith, inside (body (loop-of d)) (d .other-of .result) (other-there d))
+
+part-term-size-end : tie.Need-part-term-size-end Inv-loop μ-loop
+part-term-size-end c = omega arith
+
+term-size-requires : tie.Need-term-size-requires Inv-loop μ-loop
+term-size-requires c κs =
+    let d = (c .before .before .before .before .before .before) in
+    let b = body (loop-of d) in
+    (pattern-at b (d .other-of .result) (other-there d), λ e. (c .before .before) .if2 .taken (sym (mark-in b (d .other-of .result)) ∙ e), lends-less (omega arith) (lends (loop-of d)))
+
+-- What the length of a term at a place says.
 abbrev Past : List ℕ → ℕ → ℕ → Type 0
-Past b r p = (x : TermsAt Mode.pattern (drop p b)) → (p ≤ r) × Passes (drop p b) (r - p) (putTerms (tail (x .terms)) (x .rest))
+Past b n p = (x : TermsAt Mode.pattern (drop p b)) → Passes (part b p) n (putTerms (tail (x .terms)) (x .rest))
 
--- The place of the next end is known.
+-- The length of the end's first term is known.
 abbrev Ended : Type 0
-Ended = tie.After-term-end Inv-loop μ-loop
+Ended = tie.After-term-size Inv-loop μ-loop
 
 abbrev placed : Ended → Placed
-placed c = c .before .before .before .before .before .before
+placed c = (c .before .before .before .before .before .before .before)
 
 abbrev left : Ended → List ℕ
-left c = c .term-end .last .1 .1 .0
+left c = c .term-size .last .1 .1 .0
 
-next-there : (c : Ended) → TermsAt Mode.pattern (drop (c .term-end .result) (bytes (loop-of (placed c))))
-next-there c = after-term (bytes (loop-of (placed c))) (placed c .other-of .result) (c .term-end .result) (other-there (placed c)) (c .term-end .ensures .0 (other-there (placed c)))
+past : (c : Ended) → Past (body (loop-of (placed c))) (c .term-size .result) (placed c .other-of .result)
+past c x = c .term-size .ensures .0 (at-part (body (loop-of (placed c))) (placed c .other-of .result) x)
+
+next-there : (c : Ended) → TermsAt Mode.pattern (drop (placed c .other-of .result + c .term-size .result) (body (loop-of (placed c))))
+next-there c = after-term (body (loop-of (placed c))) (placed c .other-of .result) (c .term-size .result) (other-there (placed c)) (past c (other-there (placed c)))
+
+add-next : tie.Need-add-next Inv-loop μ-loop
+add-next c = let d = (c .before .before) in omega (arith, inside (body (loop-of (placed d))) (placed d .other-of .result + d .term-size .result) (next-there d), lends (loop-of (placed d)) .small)
 
 so-far-of-requires : tie.Need-so-far-of-requires Inv-loop μ-loop
 so-far-of-requires c κs = tt
@@ -138,7 +156,7 @@ split-of-requires c κs =
     let d = r .before .before .before .before in
     let h = loop-of (placed d) in (
       c .before .rest-of .ensures .1,
-      omega (arith, inside (bytes h) (d .term-end .result) (next-there d), lends h .small),
+      omega (arith, inside (body h) (placed d .other-of .result + d .term-size .result) (next-there d), lends h .small),
       λ e. heads-going (split-of (placed d)) (sym (c .heads-of .ensures) ∙ e),
       λ e. so-far-apart (split-of (placed d)) (h .loop .verdict) (sym (so-far-is r) ∙ e),
     )
@@ -151,7 +169,7 @@ abbrev ended : Moved → Ended
 ended c = c .before .before .before .before .before .before .before
 
 room-left : (c : Moved) → loop-of (placed (ended c)) .loop .top ≤ length (left (ended c))
-room-left c = omega (arith, within (loop-of (placed (ended c))), ended c .term-end .ensures .1 .length)
+room-left c = omega (arith, within (loop-of (placed (ended c))), ended c .term-size .ensures .1 .length)
 
 mul-room : tie.Need-mul-room Inv-loop μ-loop
 mul-room c = omega (arith, room-left c, placed (ended c) .before .before .loop-test .taken)
@@ -162,7 +180,7 @@ slice-write-room c = omega (arith, room-left c, placed (ended c) .before .before
 same-length : tie.Need-same-length Inv-loop μ-loop
 same-length c =
     let h = loop-of (placed (ended c)) in
-    length-set (left (ended c)) (h .loop .top - 1) (c .split-of .result) ∙ ended c .term-end .ensures .1 .length ∙ h .loop .inv .0 .length
+    length-set (left (ended c)) (h .loop .top - 1) (c .split-of .result) ∙ ended c .term-size .ensures .1 .length ∙ h .loop .inv .0 .length
 
 returns : tie.Need-returns Inv-loop μ-loop
 returns c =
@@ -172,7 +190,7 @@ returns c =
     let k = h .loop .top - 1 in
     let t = g .before .before .loop-test .taken in
     let n = set (left d) k (c .split-of .result) in
-    let s = d .term-end .ensures .1 in
+    let s = d .term-size .ensures .1 in
     let w = lends h in
     let at : getD n k 0 ≡ c .split-of .result = getD-set-same (left d) k (c .split-of .result) 0 (omega (arith, room-left c, t)) in
     let high : k < lent-to h .frames = omega (arith, t, w .within, h .loop .inv .2) in
@@ -180,16 +198,16 @@ returns c =
     λ j l. getD-set-other (left d) k j (c .split-of .result) 0 (λ e. omega (arith, e, l)) ∙ s .below j (omega (arith, l, high)) in
     let began : (j : ℕ) → j ≤ k → j < lent-to h .begun → getD n (lent-to h .frames + j) 0 ≡ getD (h .loop .room) (lent-to h .frames + j) 0 =
     λ j l u. getD-set-other (left d) k (lent-to h .frames + j) (c .split-of .result) 0 (λ e. omega (arith, e, high)) ∙ s .beginnings j (omega (arith, l, high)) u in
-    let o : isOverlap (h .loop .verdict) ≡ false = sym (d .before .before .before .before .before .is-overlap .ensures) ∙ not-true _ (d .before .before .before .before .if1 .taken) in
+    let o : isOverlap (h .loop .verdict) ≡ false = sym (d .before .before .before .before .before .before .is-overlap .ensures) ∙ not-true _ (d .before .before .before .before .before .if1 .taken) in
     let e = c .split-of .ensures in
     let i : suc k ≡ h .loop .top = omega (arith, t) in
     let q = split-of g in
-    let m : getD (bytes h) (otherOf q) 0 ≡ 15 → ⊥ = λ x. d .before .before .if2 .taken (ap (λ (j : ℕ). getD (bytes h) j 0) (g .other-of .ensures .0) ∙ x) in
-    let y = subst (λ (j : ℕ). Past (bytes h) (d .term-end .result) j) (g .other-of .ensures .0) (d .term-end .ensures .0) in (
-      λ from r p. inr
-          (subst (λ (top : ℕ). InTurn (bytes h) n (lent-to h) (start-of h .args .base) from top (start-of h .args .fuel) r) i
-          (let u = top-split h t from r p in
-          plugs-next u o m (y (u .other)) (ap restOf at ∙ e .0 ∙ c .before .before .rest-of .ensures .0) (ap otherOf at ∙ e .1) (ap headsOf at ∙ e .2 ∙ c .before .heads-of .ensures) (ap soFarOf at ∙ e .3 ∙ so-far-is (c .before .before .before))
+    let m : getD (body h) (otherOf q) 0 ≡ 15 → ⊥ = λ x. d .before .before .before .if2 .taken (ap (λ (j : ℕ). getD (body h) j 0) (g .other-of .ensures .0) ∙ x) in
+    let y = subst (λ (j : ℕ). Past (body h) (d .term-size .result) j) (g .other-of .ensures .0) (past d) in (
+      λ bytes r p. inr
+          (subst (λ (top : ℕ). InTurn (body h) n (lent-to h) (start-of h .args .base) bytes top (start-of h .args .fuel) r) i
+          (let u = top-split h t bytes r p in
+          plugs-next u o m (y (u .other)) (ap restOf at ∙ e .0 ∙ c .before .before .rest-of .ensures .0) (ap otherOf at ∙ e .1 ∙ ap (λ (j : ℕ). j + d .term-size .result) (g .other-of .ensures .0)) (ap headsOf at ∙ e .2 ∙ c .before .heads-of .ensures) (ap soFarOf at ∙ e .3 ∙ so-far-is (c .before .before .before))
           (record { splits = below; beginnings = λ j l. began j (omega (arith, l)) }) (began k (omega arith)))),
       (
         searched-then (searched-less (omega (arith, t, high)) (searched-then (h .loop .inv .0) s)) (entry-written (start-of h .args .base) k (s .remembers) (omega (arith, t)) high (c .split-of .result)),
@@ -217,11 +235,11 @@ loop-at j = loop-of (placed-of j)
 abbrev taken : (j : Closing) → start-of (loop-at j) .args .base < loop-at j .loop .top
 taken j = placed-of j .before .before .loop-test .taken
 
-ends : (j : Closing) → (getD (bytes (loop-at j)) (otherOf (split-of (placed-of j))) 0 ≡ 15) ⊎ (isOverlap (loop-at j .loop .verdict) ≡ true)
+ends : (j : Closing) → (getD (body (loop-at j)) (otherOf (split-of (placed-of j))) 0 ≡ 15) ⊎ (isOverlap (loop-at j .loop .verdict) ≡ true)
 ends j =
     let g = placed-of j in
     ⊎-elim
-    (λ x. inl (ap (λ (i : ℕ). getD (bytes (loop-of g)) i 0) (sym (g .other-of .ensures .0)) ∙ x .2 .left))
+    (λ x. inl (ap (λ (i : ℕ). getD (body (loop-of g)) i 0) (sym (g .other-of .ensures .0)) ∙ x .2 .left))
     (λ x. inr (sym (j .before .is-overlap .ensures) ∙ not-false _ (x .left)))
     (j .if1 .came)
 
@@ -246,13 +264,13 @@ closing c = c .before .before .before .before
 abbrev left-closed : Closed → List ℕ
 left-closed c = c .close-split .last .1 .1 .1 .1 .0
 
-kept : (c : Closed) → Searched (bytes (loop-at (closing c))) (lent-to (loop-at (closing c))) (lent-to (loop-at (closing c)) .frames) (loop-at (closing c) .loop .room) (left-closed c)
+kept : (c : Closed) → Searched (body (loop-at (closing c))) (lent-to (loop-at (closing c))) (lent-to (loop-at (closing c)) .frames) (loop-at (closing c) .loop .room) (left-closed c)
 kept c =
     let j = closing c in
     let h = loop-at j in
     let q = split-of (placed-of j) in
-    c .close-split .ensures (bytes h) (lends h .remembers)
-    (subst (λ (v : Verdict). Closes (bytes h) (h .loop .room) (lent-to h) q (h .loop .top - 1) v (start-of h .args .fuel)) (sym (ended-is (c .before .before))) (ended-closes (given h (taken j)) (ends j) (lends h .small)))
+    c .close-split .ensures (body h) (lends h .remembers)
+    (subst (λ (v : Verdict). Closes (body h) (h .loop .room) (lent-to h) q (h .loop .top - 1) v (start-of h .args .fuel)) (sym (ended-is (c .before .before))) (ended-closes (given h (taken j)) (ends j) (lends h .small)))
 
 heads-of-requires-2 : tie.Need-heads-of-requires-2 Inv-loop μ-loop
 heads-of-requires-2 c κs = tt
@@ -276,8 +294,8 @@ loop-again c =
       searched-then (h .loop .inv .0) (kept d),
       omega (arith, t),
       omega (arith, h .loop .inv .2),
-      λ from w p. subst (λ (u : Verdict). Plugs (bytes h) (left-closed d) (lent-to h) (start-of h .args .base) from k (found u (start-of h .args .fuel)) w) (sym v)
-          (plugs-same (alike-less (omega (arith, lends h .within, h .loop .inv .2)) (alike-searched (kept d))) (plugs-ended (top-split h t from w p) (ends j))),
+      λ bytes w p. subst (λ (u : Verdict). Plugs (body h) (left-closed d) (lent-to h) (start-of h .args .base) bytes k (found u (start-of h .args .fuel)) w) (sym v)
+          (plugs-same (alike-less (omega (arith, lends h .within, h .loop .inv .2)) (alike-searched (kept d))) (plugs-ended (top-split h t bytes w p) (ends j))),
     )
 
 same-length-2 : tie.Need-same-length-2 Inv-loop μ-loop
@@ -287,7 +305,7 @@ returns-2 : tie.Need-returns-2 Inv-loop μ-loop
 returns-2 c =
     let h = c .before in
     let z : h .loop .top ≡ start-of h .args .base = omega (arith, h .loop .inv .1, c .loop-test .left) in (
-      λ from w p. inl (z, plugs-all (h .loop .inv .3 from w p) (omega (arith, z))),
+      λ bytes w p. inl (z, plugs-all (h .loop .inv .3 bytes w p) (omega (arith, z))),
       (
         searched-less (omega (arith, z, lends h .within, h .loop .inv .2)) (h .loop .inv .0),
         h .loop .inv .1,
@@ -298,4 +316,4 @@ returns-2 c =
 pub unwind-spec : {M : Type 1} → statement M
 unwind-spec =
     tie.close
-    (tie.spec Inv-loop μ-loop loop-holds sub-k mul-split slice-read-split other-of-requires is-overlap-requires shared-slice-read-if2 term-end-requires so-far-of-requires remember-requires rest-of-requires heads-of-requires split-of-requires mul-room slice-write-room same-length returns so-far-of-requires-2 ended-by-requires close-split-requires heads-of-requires-2 behind-verdict-requires loop-less loop-again same-length-2 returns-2)
+    (tie.spec Inv-loop μ-loop loop-holds sub-k mul-split slice-read-split other-of-requires is-overlap-requires shared-slice-read-if2 sub-term-size part-term-size-start part-term-size-end term-size-requires add-next so-far-of-requires remember-requires rest-of-requires heads-of-requires split-of-requires mul-room slice-write-room same-length returns so-far-of-requires-2 ended-by-requires close-split-requires heads-of-requires-2 behind-verdict-requires loop-less loop-again same-length-2 returns-2)

@@ -1,10 +1,11 @@
--- The measures of the cycle: sixteen times the bytes left behind both places, and less than sixteen more by who calls whom.
-use Prim.Native.Nat.{ℕ, _+_, _-_, _*_, _<_}
+-- The measures of the cycle: sixteen times the bytes of both tails, and less than sixteen more by who calls whom.
+use Prim.Native.Nat.{ℕ, _+_, _*_, _<_}
 use mathlib.Core.List.{List}
 use lib.ListN.{length}
 use borrow.Fn.Kinds.{In}
 use borrow.Fn.PlainCycle.{Measures, is, falls, and}
 use Rattle.overlap.specs.declared.search.Leading.{Leading}
+use Rattle.overlap.specs.Parts.{behindPlaces}
 use Rattle.overlap.proofs.search.absorbing_split.Reads as absorbing-split
 use Rattle.overlap.proofs.search.absorbing_split.Kinds as absorbing-split-kinds
 use Rattle.overlap.proofs.search.+absorbing_split+heads+overlap_of_terms+pair_overlap+sequence+settle+takes.Lts-absorbing_split as absorbing-split-lts
@@ -26,7 +27,6 @@ use Rattle.overlap.proofs.search.+absorbing_split+heads+overlap_of_term
 use Rattle.overlap.proofs.search.takes.Reads as takes
 use Rattle.overlap.proofs.search.takes.Kinds as takes-kinds
 use Rattle.overlap.proofs.search.+absorbing_split+heads+overlap_of_terms+pair_overlap+sequence+settle+takes.Lts-takes as takes-lts
-use Rattle.image.proofs.part.term_len.Reads as term-len-reads
 use Rattle.overlap.proofs.behind_heads.Reads as behind-heads-reads
 use Rattle.overlap.proofs.is_disjoint.Reads as is-disjoint-reads
 use Rattle.overlap.proofs.is_overlap.Reads as is-overlap-reads
@@ -35,47 +35,47 @@ use Rattle.overlap.proofs.remember.Reads as remember-reads
 use Rattle.overlap.proofs.search.is_out.Reads as is-out-reads
 use Rattle.overlap.proofs.search.recalled.Reads as recalled-reads
 use Rattle.overlap.proofs.search.shallower.Reads as shallower-reads
+use Rattle.overlap.proofs.search.split_at.Reads as split-at-reads
 use Rattle.overlap.proofs.slots.code_of.Reads as code-of-reads
 use Rattle.overlap.proofs.slots.key_of.Reads as key-of-reads
 use Rattle.overlap.proofs.slots.note.Reads as note-reads
 use Rattle.overlap.proofs.slots.recall.Reads as recall-reads
 use Rattle.overlap.proofs.slots.verdict_of.Reads as verdict-of-reads
 use Rattle.overlap.proofs.stack.other_of.Reads as other-of-reads
-use Rattle.overlap.proofs.stack.rest_of.Reads as rest-of-reads
 use Rattle.overlap.proofs.stack.push.Reads as push-reads
+use Rattle.overlap.proofs.stack.rest_of.Reads as rest-of-reads
 use Rattle.overlap.proofs.stack.unwind.Reads as unwind-reads
 use Rattle.overlap.proofs.terms.leftover_overlap.Reads as leftover-overlap-reads
-use Rattle.overlap.proofs.terms.term_end.Reads as term-end-reads
+use Rattle.overlap.proofs.terms.place_of.Reads as place-of-reads
+use Rattle.overlap.proofs.terms.term_size.Reads as term-size-reads
 use Rattle.symbols.proofs.same_symbol.Reads as same-symbol-reads
-
--- The bytes from two places on.
-abbrev pub behindPlaces : List ℕ → ℕ → ℕ → ℕ
-behindPlaces b p q = (length b - p) + (length b - q)
+use Rattle.overlap.proofs.search.recall_pair.Reads as recall-pair-reads
+use Rattle.overlap.proofs.search.note_pair.Reads as note-pair-reads
 
 abbrev pub settling : List ℕ → Leading → ℕ
 settling b (Leading.Ended q) = 0
 settling b (Leading.Split o) = 16 * behindPlaces b (o .rest) (o .other) + 10
 
 abbrev pub μ-absorbing-split : Measures 2 absorbing-split-kinds.ps ℕ
-μ-absorbing-split κs a = 16 * behindPlaces (a .0 .now) (a .1 .0) (a .1 .1 .0) + 9
+μ-absorbing-split κs a = 16 * (length (a .1 .0 .now) + length (a .1 .1 .0 .now)) + 9
 
 abbrev pub μ-heads : Measures 2 heads-kinds.ps ℕ
-μ-heads κs a = 16 * behindPlaces (a .0 .now) (a .1 .0) (a .1 .1 .0) + 5
+μ-heads κs a = 16 * (length (a .1 .0 .now) + length (a .1 .1 .0 .now)) + 5
 
 abbrev pub μ-overlap-of-terms : Measures 2 overlap-of-terms-kinds.ps ℕ
-μ-overlap-of-terms κs a = 16 * behindPlaces (a .0 .now) (a .1 .0) (a .1 .1 .0) + 4
+μ-overlap-of-terms κs a = 16 * (length (a .1 .0 .now) + length (a .1 .1 .0 .now)) + 4
 
 abbrev pub μ-pair-overlap : Measures 2 pair-overlap-kinds.ps ℕ
-μ-pair-overlap κs a = 16 * behindPlaces (a .0 .now) (a .1 .0) (a .1 .1 .0) + 8
+μ-pair-overlap κs a = 16 * (length (a .1 .0 .now) + length (a .1 .1 .0 .now)) + 8
 
 abbrev pub μ-sequence : Measures 2 sequence-kinds.ps ℕ
-μ-sequence κs a = 16 * behindPlaces (a .0 .now) (a .1 .0) (a .1 .1 .0) + 7
+μ-sequence κs a = 16 * (length (a .1 .0 .now) + length (a .1 .1 .0 .now)) + 7
 
 abbrev pub μ-settle : Measures 2 settle-kinds.ps ℕ
 μ-settle κs a = settling (a .0 .now) (a .1 .0)
 
 abbrev pub μ-takes : Measures 2 takes-kinds.ps ℕ
-μ-takes κs a = 16 * behindPlaces (a .0 .now) (a .1 .0) (a .1 .1 .0) + 8
+μ-takes κs a = 16 * (length (a .1 .0 .now) + length (a .1 .1 .0 .now)) + 8
 
 abbrev pub absorbing-split-at : ℕ → In 2 absorbing-split-kinds.ps
 absorbing-split-at t = and 2 absorbing-split-kinds.ps (is 2 absorbing-split-kinds.ps μ-absorbing-split t) absorbing-split.Pre
@@ -122,11 +122,11 @@ takes-below t = and 2 takes-kinds.ps (falls 2 takes-kinds.ps _<_ μ-takes t) tak
 -- What each member asks of those that it calls, and learns from them.
 abbrev pub absorbing-split-claims : ℕ → absorbing-split-lts.Claims
 absorbing-split-claims t =
-    (takes-below t, takes.Post, code-of-reads.Asked, code-of-reads.Learnt, key-of-reads.Asked, key-of-reads.Learnt, note-reads.Asked, note-reads.Learnt)
+    (takes-below t, takes.Post, code-of-reads.Asked, code-of-reads.Learnt, place-of-reads.Asked, place-of-reads.Learnt, key-of-reads.Asked, key-of-reads.Learnt, note-reads.Asked, note-reads.Learnt)
 
 abbrev pub heads-claims : ℕ → heads-lts.Claims
 heads-claims t =
-    (leftover-overlap-reads.Asked, leftover-overlap-reads.Learnt, behind-heads-reads.Asked, behind-heads-reads.Learnt, term-len-reads.Asked, term-len-reads.Learnt, overlap-of-terms-below t, overlap-of-terms.Post, is-disjoint-reads.Asked, is-disjoint-reads.Learnt, remember-reads.Asked, remember-reads.Learnt, term-end-reads.Asked, term-end-reads.Learnt)
+    (leftover-overlap-reads.Asked, leftover-overlap-reads.Learnt, behind-heads-reads.Asked, behind-heads-reads.Learnt, split-at-reads.Asked, split-at-reads.Learnt, overlap-of-terms-below t, overlap-of-terms.Post, is-disjoint-reads.Asked, is-disjoint-reads.Learnt, remember-reads.Asked, remember-reads.Learnt, term-size-reads.Asked, term-size-reads.Learnt)
 
 abbrev pub overlap-of-terms-claims : ℕ → overlap-of-terms-lts.Claims
 overlap-of-terms-claims t =
@@ -134,7 +134,7 @@ overlap-of-terms-claims t =
 
 abbrev pub pair-overlap-claims : ℕ → pair-overlap-lts.Claims
 pair-overlap-claims t =
-    (key-of-reads.Asked, key-of-reads.Learnt, recall-reads.Asked, recall-reads.Learnt, verdict-of-reads.Asked, verdict-of-reads.Learnt, sequence-below t, sequence.Post, code-of-reads.Asked, code-of-reads.Learnt, note-reads.Asked, note-reads.Learnt)
+    (recall-pair-reads.Asked, recall-pair-reads.Learnt, verdict-of-reads.Asked, verdict-of-reads.Learnt, sequence-below t, sequence.Post, note-pair-reads.Asked, note-pair-reads.Learnt)
 
 abbrev pub sequence-claims : ℕ → sequence-lts.Claims
 sequence-claims t =
@@ -146,4 +146,4 @@ settle-claims t =
 
 abbrev pub takes-claims : ℕ → takes-lts.Claims
 takes-claims t =
-    (sequence-below t, sequence.Post, is-overlap-reads.Asked, is-overlap-reads.Learnt, remember-reads.Asked, remember-reads.Learnt, term-end-reads.Asked, term-end-reads.Learnt)
+    (sequence-below t, sequence.Post, is-overlap-reads.Asked, is-overlap-reads.Learnt, remember-reads.Asked, remember-reads.Learnt, term-size-reads.Asked, term-size-reads.Learnt)

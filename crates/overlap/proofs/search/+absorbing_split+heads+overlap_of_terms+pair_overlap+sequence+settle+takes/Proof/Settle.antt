@@ -8,7 +8,7 @@ use Rattle.overlap.specs.declared.search.Leading.{Leading}
 use Rattle.overlap.specs.Steps.{behind}
 use Rattle.overlap.specs.Memory.{SplitTold}
 use Rattle.overlap.specs.Stack.{Leads, OpensAt, Sound}
-use Rattle.overlap.proofs.Readings.{inside}
+use Rattle.overlap.proofs.Readings.{part-length, inside, at-part, pattern-at}
 use Rattle.overlap.proofs.Memory.{told, key-nonzero, searched-same}
 use Rattle.overlap.proofs.search.settle.Reads as settle
 use Rattle.overlap.proofs.search.+absorbing_split+heads+overlap_of_terms+pair_overlap+sequence+settle+takes.Lts-settle as lts
@@ -73,8 +73,8 @@ module _ (t : ℕ) where
       let d = c .before .before .before .before .before .before .before .before .before in
       let s = start-of d in
       let key = c .before .before .before .before .key-of .ensures in (
-        λ fuel from x y l.
-            let o = subst (λ (h : Leading). Leads (s .args .b .now) fuel from x y h) (is-split d) l in
+        λ fuel bytes x y l.
+            let o = subst (λ (h : Leading). Leads (s .args .b .now) fuel bytes x y h) (is-split d) l in
             let k = told (SplitTold (s .args .b .now)) (s .pre .1 .1 .remembers .splits) (c .before .before .before .recall .ensures) (λ e. key-nonzero (split d .rest) (split d .other) (sym key ∙ e)) (c .before .before .if1 .taken)
             (split d .rest) (split d .other) (low-rest d) (low-other d) key (o .rest) (o .other) in
             c .behind-heads .ensures ∙ ap (behind (split d .heads)) (c .before .recalled .ensures (k .0) (k .1) ∙ sym (k .2 (split d .fuel))) ∙ sym (o .whole),
@@ -96,8 +96,8 @@ module _ (t : ℕ) where
       let d = c .before .before .before .before .before .before .before .before .before .before .before .before .before .before in
       let s = start-of d in
       let e = c .before .before .push .ensures in (
-        λ fuel from x y l. record {
-          opens = subst (λ (h : Leading). Leads (s .args .b .now) fuel from x y h) (is-split d) l;
+        λ fuel bytes x y l. record {
+          opens = subst (λ (h : Leading). Leads (s .args .b .now) fuel bytes x y h) (is-split d) l;
           room = c .before .before .before .before .if3 .taken;
           entered = e .0;
         },
@@ -108,12 +108,33 @@ module _ (t : ℕ) where
   shallower-requires c κs = tt
 
   -- It is searched by calls.
+  pub sub-absorbing-split : lts.Need-sub-absorbing-split (claims t) (at t) settle.Post
+  sub-absorbing-split c = let d = (c .before .before .before .before .before .before .before .before .before) in omega (arith, inside (start-of d .args .b .now) (split d .rest) (opens-at d .rest))
+
+  pub part-absorbing-split-start : lts.Need-part-absorbing-split-start (claims t) (at t) settle.Post
+  part-absorbing-split-start c = let d = (c .before .before .before .before .before .before .before .before .before) in omega (arith, inside (start-of d .args .b .now) (split d .rest) (opens-at d .rest))
+
+  pub part-absorbing-split-end : lts.Need-part-absorbing-split-end (claims t) (at t) settle.Post
+  part-absorbing-split-end c = omega arith
+
+  pub sub-absorbing-split-2 : lts.Need-sub-absorbing-split-2 (claims t) (at t) settle.Post
+  sub-absorbing-split-2 c = let d = (c .before .before .before .before .before .before .before .before .before .before) in omega (arith, inside (start-of d .args .b .now) (split d .other) (opens-at d .other))
+
+  pub part-absorbing-split-start-2 : lts.Need-part-absorbing-split-start-2 (claims t) (at t) settle.Post
+  part-absorbing-split-start-2 c = let d = (c .before .before .before .before .before .before .before .before .before .before) in omega (arith, inside (start-of d .args .b .now) (split d .other) (opens-at d .other))
+
+  pub part-absorbing-split-end-2 : lts.Need-part-absorbing-split-end-2 (claims t) (at t) settle.Post
+  part-absorbing-split-end-2 c = omega arith
+
   pub absorbing-split-requires : lts.Need-absorbing-split-requires (claims t) (at t) settle.Post
   absorbing-split-requires c κs =
-      let d = c .before .before .before .before .before .before .before .before .before .before in
+      let d = (c .before .before .before .before .before .before .before .before .before .before .before .before) in
       let s = start-of d in
-      let o = opens-at d in
-      (omega (arith, s .pre .0, ap (settling (s .args .b .now)) (is-split d)), (o .rest, o .other, s .pre .1 .1, o .few))
+      let b = s .args .b .now in
+      let o = opens-at d in (
+        omega (arith, s .pre .0, ap (settling b) (is-split d), part-length b (split d .rest), part-length b (split d .other)),
+        (pattern-at b (split d .rest) (o .rest), pattern-at b (split d .other) (o .other), s .pre .1 .1, o .few),
+      )
 
   pub behind-heads-requires-2 : lts.Need-behind-heads-requires-2 (claims t) (at t) settle.Post
   behind-heads-requires-2 c κs = tt
@@ -123,20 +144,21 @@ module _ (t : ℕ) where
   returns-3 c =
       let d = c .before in
       let s = d .before .before .before .before in (
-        λ fuel from x y l. subst (λ (h : Leading). Leads (s .args .b .now) fuel from x y h) (d .h .given .1) l,
+        λ fuel bytes x y l. subst (λ (h : Leading). Leads (s .args .b .now) fuel bytes x y h) (d .h .given .1) l,
         searched-same (s .pre .1 .1 .remembers) (s .args .top),
       )
 
   pub same-length-3 : lts.Need-same-length-3 (claims t) (at t) settle.Post
-  same-length-3 c = c .before .before .before .absorbing-split .ensures .1 .length
+  same-length-3 c = (c .before .before .before) .absorbing-split .ensures .1 .length
 
   pub returns-4 : lts.Need-returns-4 (claims t) (at t) settle.Post
   returns-4 c =
-      let g = c .before .before .before in
-      let d = c .before .before .before .before .before .before .before .before .before .before .before .before .before .before in
-      let s = start-of d in (
-        λ fuel from x y l.
-            let o = subst (λ (h : Leading). Leads (s .args .b .now) fuel from x y h) (is-split d) l in
-            c .behind-heads2 .ensures ∙ ap (behind (split d .heads)) (g .absorbing-split .ensures .0 (o .rest) (o .other)) ∙ sym (o .whole),
-        g .absorbing-split .ensures .1,
+      let q = (c .before .before .before) .absorbing-split .ensures in
+      let d = (c .before .before .before .before .before .before .before .before .before .before .before .before .before .before .before .before) in
+      let s = start-of d in
+      let b = s .args .b .now in (
+        λ fuel bytes x y l.
+            let o = subst (λ (h : Leading). Leads b fuel bytes x y h) (is-split d) l in
+            c .behind-heads2 .ensures ∙ ap (behind (split d .heads)) (q .0 (at-part b (split d .rest) (o .rest)) (at-part b (split d .other) (o .other))) ∙ sym (o .whole),
+        q .1,
       )

@@ -1,4 +1,4 @@
-"""Holds the report texts of crates/report/proofs/Examples.antt to the Rust's.
+"""Holds the report texts of crates/meaning/proofs/ReportExamples.antt to the Rust's.
 
     python3 tools/report_examples.py [ORACLE]
 
@@ -14,7 +14,7 @@ from oracle import Oracle
 from reader import Block, Bracket, Call, Character, Function, Program, Sentence, Span, Variable, encode
 
 ROOT = Path(__file__).parent.parent
-EXAMPLES = ROOT / "crates/report/proofs/Examples.antt"
+EXAMPLES = ROOT / "crates/meaning/proofs/ReportExamples.antt"
 
 
 def chars(text):

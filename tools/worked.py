@@ -3,7 +3,7 @@
     python3 tools/worked.py > examples/worked.image
     python3 tools/worked.py decimal
 
-The second form prints the bytes in decimal, as crates/image/proofs/Examples.antt has them.
+The second form prints the bytes in decimal, as crates/program/proofs/Examples.antt has them.
 """
 
 import sys

@@ -7,21 +7,22 @@ use mathlib.Core.List.{List, map}
 use mathlib.Core.Option.{some, Option·getD}
 use lib.Dec.{eqb, ltb}
 use lib.ListN.{length, getD, getElem?}
-use Rattle.image.specs.Syntax.{Function, Program}
-use Rattle.image.specs.Parts.{ownSentences}
+use Rattle.program.specs.Syntax.{Function, Program}
+use Rattle.program.specs.Sentences.{ownSentences}
 use Rattle.restrictions.specs.Entries.{Entry}
 use Rattle.index.specs.declared.Plan.{Plan}
 use Rattle.index.specs.Layout.{heads, lines, witnesses, marks, calls, links}
 use Rattle.index.specs.First.{First}
-use Rattle.index.specs.Tables.{sentencesBefore, FunctionEntry, SentenceEntry, Apart}
+use Rattle.told.specs.Numbered.{sentencesBefore, sitesOf}
+use Rattle.index.specs.Tables.{FunctionEntry, SentenceEntry, Apart}
 use Rattle.index.specs.Tabled.{Tabled}
-use Rattle.index.specs.Calls.{isListed}
+use Rattle.told.specs.Calls.{isListed}
 use Rattle.index.specs.Links.{listHead, entryNext, entryClass, isRepeat}
 use Rattle.index.proofs.First.{element-below}
-use Rattle.cleaning.specs.Root.{entryPlace, rootPlace}
-use Rattle.cleaning.specs.Kept.{isKept}
-use Rattle.cleaning.specs.History.{isThere, afterAll, Told}
-use Rattle.cleaning.specs.Indexed.{sitesOf, Indexed, fellOf}
+use Rattle.meaning.specs.Root.{entryPlace, rootPlace}
+use Rattle.told.specs.Kept.{isKept}
+use Rattle.told.specs.History.{isThere, afterAll, Told}
+use Rattle.cleaning.specs.Indexed.{Indexed, fellOf}
 use Rattle.cleaning.specs.Prepared.{ProgramLinked}
 use Rattle.cleaning.specs.Walks.{Witnessed}
 use Rattle.cleaning.specs.RoundDone.{RoundsReady, RoundsMade}

@@ -8,30 +8,30 @@ use lib.Dec.{eqb, ltb, leb}
 use lib.ListN.{length, take, drop, length-drop}
 use lib.Seq.{length-take-le, getD-take, getD-drop, ext-getD}
 use borrow.Author.Tests.{lt-ltb, le-ltb, lt-leb}
-use Rattle.image.specs.Syntax.{Function, Program}
-use Rattle.image.specs.Encode.{ownSentenceCount, encode}
+use Rattle.program.specs.Syntax.{Function, Program}
+use Rattle.program.specs.Encode.{ownSentenceCount, encode}
 use Rattle.image.specs.Parts.{Accepted}
-use Rattle.restrictions.proofs.Numbered.{own-counted}
+use Rattle.program.proofs.Own.{own-counted}
 use Rattle.index.specs.declared.Plan.{Plan}
 use Rattle.index.specs.Layout.{marks, calls, room}
-use Rattle.cleaning.specs.Cleaning.{cleanResidualProgram}
-use Rattle.cleaning.specs.CleanReport.{cleanReport}
-use Rattle.cleaning.specs.Kept.{isKept, keptFunctions, keptProgram}
-use Rattle.cleaning.specs.History.{isThere, startOf}
+use Rattle.meaning.specs.Cleaning.{cleanResidualProgram}
+use Rattle.meaning.specs.CleanReport.{cleanReport}
+use Rattle.told.specs.Kept.{isKept, keptFunctions, keptProgram}
+use Rattle.told.specs.History.{isThere, startOf}
 use Rattle.cleaning.specs.Indexed.{fellOf}
 use Rattle.cleaning.specs.Room.{Used}
-use Rattle.cleaning.specs.ToldReport.{toldReport}
-use Rattle.cleaning.proofs.Kept.{kept-same}
-use Rattle.cleaning.proofs.History.{told-cleaned}
-use Rattle.cleaning.proofs.ToldReport.{told-report}
+use Rattle.told.specs.ToldReport.{toldReport}
+use Rattle.told.proofs.Kept.{kept-same}
+use Rattle.told.proofs.History.{told-cleaned}
+use Rattle.told.proofs.ToldReport.{told-report}
 use Rattle.cleaning.proofs.Room.{used-fell}
 use Rattle.output.specs.Marks.{NoneFrom, keptCount}
 use Rattle.output.proofs.Ones.{count-functions, count-le}
-use Rattle.cleaning.specs.Text.{Text}
-use Rattle.report.specs.Fill.{Emitted}
-use Rattle.report.specs.Report.{formatCleanReport}
-use Rattle.report.proofs.Fill.{filled-empty}
-use Rattle.cleaner.specs.CleanAnswers.{written}
+use Rattle.meaning.specs.Text.{Text}
+use Rattle.text.specs.Fill.{Emitted}
+use Rattle.meaning.specs.Report.{formatCleanReport}
+use Rattle.text.proofs.Fill.{filled-empty}
+use Rattle.answers.specs.CleanAnswers.{written}
 use Rattle.cleaner.specs.Delivery.{marksIn, Delivery}
 
 module _ {image : List ℕ} (a : Accepted image) {m : List ℕ} (p : Plan) {root n : ℕ} (d : Delivery image a m p root n) {ms : List ℕ} (ms-is : ms ≡ marksIn p m) where

@@ -7,25 +7,27 @@ use mathlib.Core.List.{List, [], _∷_, map}
 use lib.Dec.{leb, ltb}
 use lib.ListN.{length, getD}
 use borrow.Author.Tests.{le-leb, lt-leb, lt-ltb, le-ltb}
-use Rattle.image.specs.Syntax.{Program}
-use Rattle.image.specs.Limits.{pick}
-use Rattle.image.specs.Decode.{Answer, sized, decode}
+use Rattle.program.specs.Syntax.{Program}
+use Rattle.program.specs.Limits.{pick}
+use Rattle.program.specs.Decode.{Answer, sized, decode}
 use Rattle.image.specs.Parts.{Accepted}
-use Rattle.image.specs.Encode.{encode}
-use Rattle.image.proofs.Numbers.{Bytes}
+use Rattle.program.specs.Encode.{encode}
+use Rattle.program.specs.Bytes.{Bytes}
 use Rattle.image.specs.Tally.{checkedOf}
 use Rattle.image.specs.Steps.{refusal}
 use Rattle.image.specs.declared.reader.Checked.{Checked}
-use Rattle.image.specs.declared.reader.Refusal.{Refusal}
-use Rattle.cleaning.specs.Cleaning.{cleanResidualProgram}
-use Rattle.cleaning.specs.CleanReport.{cleanReport}
-use Rattle.report.specs.Report.{formatCleanReport}
-use Rattle.cleaner.specs.declared.CleanAnswer.{CleanAnswer}
-use Rattle.cleaner.specs.CleanAnswers.{Lent, Left, cleanRefused, cleanedTo, refusing, written, zeroed, writing, cleanDecoded, entriesFor, cleanAnswer}
-use Rattle.cleaner.specs.Packed.{cleanFields, CleanFits}
-use Rattle.cleaner.specs.Fitting.{refused-small, accepted-small}
-use Rattle.cleaner.specs.Writing.{writingOf, lending, Wrote}
-use Rattle.cleaner.specs.Demands.{clean-refused-1, clean-refused-2, clean-refused-3, cleaned-accepted}
+use Rattle.program.specs.declared.Refusal.{Refusal}
+use Rattle.meaning.specs.Cleaning.{cleanResidualProgram}
+use Rattle.meaning.specs.CleanReport.{cleanReport}
+use Rattle.meaning.specs.Report.{formatCleanReport}
+use Rattle.answers.specs.declared.CleanAnswer.{CleanAnswer}
+use Rattle.answers.specs.CleanAnswers.{Lent, Left, cleanRefused, cleanedTo, refusing, written, zeroed, writing, cleanDecoded, entriesFor, cleanAnswer, lending}
+use Rattle.answers.specs.Packed.{cleanFields, CleanFits}
+use Rattle.program.proofs.RoundTrip.{decode-encode, encode-decode}
+use Rattle.meaning.proofs.Fewer.{cleaned-valid}
+use Rattle.answers.proofs.Fitting.{refused-small, accepted-small}
+use Rattle.cleaner.specs.Writing.{writingOf, Wrote}
+use Rattle.answers.proofs.Exactly.{CleanRefuses, untouched, clean-refuses}
 
 sized-short : (image : List ℕ) → length image < 12 → sized image ≡ false
 unfolding sized
@@ -84,19 +86,22 @@ module _ (image output work report : List ℕ) where
   }
 
   pub ended-short : length image < 12 → Ended image output work report (cleanRefused 1 0) output work report
-  ended-short l = ended-refusing 1 0 (omega arith) (omega arith) (clean-refused-1 image (lending output work report) (sized-short image l))
+  unfolding refusing untouched
+  ended-short l = ended-refusing 1 0 (omega arith) (omega arith) (clean-refuses image (lending output work report) 1 0 (CleanRefuses.by-1 (sized-short image l)))
 
   pub ended-long : 32768 < length image → Ended image output work report (cleanRefused 1 0) output work report
-  ended-long l = ended-refusing 1 0 (omega arith) (omega arith) (clean-refused-1 image (lending output work report) (sized-long image l))
+  unfolding refusing untouched
+  ended-long l = ended-refusing 1 0 (omega arith) (omega arith) (clean-refuses image (lending output work report) 1 0 (CleanRefuses.by-1 (sized-long image l)))
 
   module _ (least : 12 ≤ length image) (most : length image ≤ 32768) where
     pub ended-output : length output < length image → Ended image output work report (cleanRefused 2 0) output work report
-    ended-output l = ended-refusing 2 0 (omega arith) (omega arith) (clean-refused-2 image (lending output work report) (sized-right image least most) l)
+    unfolding refusing untouched
+    ended-output l = ended-refusing 2 0 (omega arith) (omega arith) (clean-refuses image (lending output work report) 2 0 (CleanRefuses.by-2 (sized-right image least most) l))
 
     module _ (enough : length image ≤ length output) where
       pub ended-work : length work < (length image + 3) / 4 → Ended image output work report (cleanRefused 3 0) output work report
-      unfolding entriesFor
-      ended-work l = ended-refusing 3 0 (omega arith) (omega arith) (clean-refused-3 image (lending output work report) (sized-right image least most) enough l)
+      unfolding entriesFor refusing untouched
+      ended-work l = ended-refusing 3 0 (omega arith) (omega arith) (clean-refuses image (lending output work report) 3 0 (CleanRefuses.by-3 (sized-right image least most) enough l))
 
       module _ (entries : (length image + 3) / 4 ≤ length work) where
         decoded : cleanAnswer image (lending output work report) ≡ cleanDecoded (decode image) (lending output work report)
@@ -117,7 +122,7 @@ module _ (image output work report : List ℕ) where
           outputs = w .outputs work ∙ sym (ap (λ (x : Left). x .lent .output) (accepted-is a));
           works = z ∙ (sym (cleared (encode (cleanResidualProgram (a .program))) (formatCleanReport (cleanReport (a .program))) output work report) ∙ sym (ap (λ (x : Left). x .lent .work) (accepted-is a)));
           reports = w .reports work ∙ sym (ap (λ (x : Left). x .lent .report) (accepted-is a));
-          fits = subst CleanFits (sym (w .answers work)) (writing-fits _ _ (lending output work report) (omega (arith, accepted-small _ _ (cleaned-accepted image bytes (a .program) (a .is)))) (w .short));
+          fits = subst CleanFits (sym (w .answers work)) (writing-fits _ _ (lending output work report) (omega (arith, accepted-small _ _ (decode-encode (cleanResidualProgram (a .program)) (cleaned-valid (a .program) (encode-decode image (a .program) bytes (a .is) .1))))) (w .short));
         }
 
 -- Work whose every entry is zero.

@@ -2,14 +2,14 @@
 use Prim.Native.Nat.{ℕ}
 use mathlib.Core.Path.{_≡_, sym, ap, subst, _∙_}
 use mathlib.Core.List.{List}
-use Rattle.image.specs.declared.reader.Refusal.{Refusal}
-use Rattle.cleaner.specs.declared.CleanAnswer.{CleanAnswer}
-use Rattle.cleaner.specs.declared.OverlapAnswer.{OverlapAnswer}
-use Rattle.cleaner.specs.declared.Lengths.{Lengths}
-use Rattle.cleaner.specs.declared.Comparison.{Comparison}
-use Rattle.cleaner.specs.Answers.{overlapAnswer, verdictNumber}
-use Rattle.cleaner.specs.Packed.{packed, FieldsFit, cleanFields, overlapFields, packClean, packOverlap, CleanFits, OverlapFits}
-use Rattle.cleaner.specs.Fitting.{overlap-fits}
+use Rattle.program.specs.declared.Refusal.{Refusal}
+use Rattle.answers.specs.declared.CleanAnswer.{CleanAnswer}
+use Rattle.answers.specs.declared.OverlapAnswer.{OverlapAnswer}
+use Rattle.answers.specs.declared.Lengths.{Lengths}
+use Rattle.answers.specs.declared.Comparison.{Comparison}
+use Rattle.answers.specs.Answers.{overlapAnswer, verdictNumber}
+use Rattle.answers.specs.Packed.{packed, FieldsFit, cleanFields, overlapFields, packClean, packOverlap, CleanFits}
+use Rattle.answers.proofs.Fitting.{OverlapFits, overlap-fits}
 
 -- ---- Clean
 

@@ -7,7 +7,7 @@ use mathlib.Core.List.{List}
 use lib.Dec.{ltb}
 use lib.ListN.{length, getD, replicate, length-replicate, getD-replicate, List·getD-eq-default}
 use borrow.Author.Tests.{ltb-true, ltb-false}
-use Rattle.image.specs.Syntax.{Program}
+use Rattle.program.specs.Syntax.{Program}
 use Rattle.overlap.specs.declared.Room as lent
 use Rattle.overlap.specs.Memory.{Truthful, PairTold, EndTold, SplitTold, tables, Remembers}
 use Rattle.index.specs.declared.Plan.{Plan}

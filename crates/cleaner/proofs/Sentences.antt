@@ -5,27 +5,27 @@ use mathlib.Core.Path.{_≡_, refl, sym, ap, subst, _∙_}
 use mathlib.Core.List.{List, _∷_}
 use lib.ListN.{length, take, drop, length-drop}
 use lib.Seq.{drop-drop}
-use Rattle.image.specs.Syntax.{Terms, Function}
-use Rattle.image.specs.Bytes.{putSpan, put32}
-use Rattle.image.specs.Encode.{putHead, putTerms, putConditions, putFunctions}
-use Rattle.image.specs.Limits.{Mode, ValidFunctions}
-use Rattle.image.specs.Decode.{Answer, decode}
-use Rattle.image.specs.Parts.{TermsAt, Sentence, putSentence, ownSentences, FunctionsAt, Stands, FoundIn, Accepted}
+use Rattle.program.specs.Syntax.{Terms, Function}
+use Rattle.program.specs.Bytes.{putSpan, put32, Bytes}
+use Rattle.program.specs.Encode.{putHead, putTerms, putConditions, putFunctions}
+use Rattle.program.specs.Limits.{Mode, ValidFunctions}
+use Rattle.program.specs.Decode.{Answer, decode}
+use Rattle.image.specs.Parts.{TermsAt, putSentence, FunctionsAt, Stands, FoundIn, Accepted}
+use Rattle.program.specs.Sentences.{Sentence, ownSentences}
 use Rattle.image.specs.Tally.{checkedOf}
 use Rattle.image.specs.Steps.{refusal}
 use Rattle.image.specs.declared.part.Found as places
 use Rattle.image.specs.declared.reader.Checked.{Checked}
-use Rattle.image.specs.declared.reader.Refusal.{Refusal}
-use Rattle.image.proofs.Numbers.{Bytes}
-use Rattle.image.proofs.Lengths.{head-length}
-use Rattle.image.proofs.RoundTrip.{encode-decode}
-use Rattle.image.proofs.Own.{element, no-element, own-valid}
-use Rattle.overlap.specs.Search.{patternsOverlap, spent, sequence, start}
-use Rattle.overlap.specs.declared.Found.{Found}
-use Rattle.overlap.proofs.Fuel.{fuel-falls}
+use Rattle.program.specs.declared.Refusal.{Refusal}
+use Rattle.program.proofs.Lengths.{head-length}
+use Rattle.program.proofs.RoundTrip.{encode-decode}
+use Rattle.program.proofs.Own.{element, no-element, own-valid}
+use Rattle.patterns.specs.Search.{patternsOverlap, spent, sequence, start}
+use Rattle.patterns.specs.declared.Found.{Found}
+use Rattle.patterns.proofs.Fuel.{fuel-falls}
 use Rattle.cleaner.specs.Parts.{PatternFrom}
-use Rattle.cleaner.specs.Answers.{overlapRefused, comparePatterns, compareFound, compareSentences, overlapOf, overlapAnswer}
-use Rattle.cleaner.specs.declared.OverlapAnswer.{OverlapAnswer}
+use Rattle.answers.specs.Answers.{overlapRefused, comparePatterns, compareFound, compareSentences, overlapOf, overlapAnswer}
+use Rattle.answers.specs.declared.OverlapAnswer.{OverlapAnswer}
 
 -- ---- where a sentence stands
 

@@ -6,26 +6,27 @@ use mathlib.Core.Bool.{Bool, true, false}
 use mathlib.Core.List.{List, map}
 use lib.ListN.{length, take, drop}
 use lib.Seq.{length-take-le}
-use Rattle.image.specs.Syntax.{Program}
-use Rattle.image.specs.Encode.{putFunctions, ownSentenceCount, encode}
-use Rattle.image.specs.Limits.{Valid}
-use Rattle.image.specs.Decode.{bodyLength}
-use Rattle.image.specs.Parts.{ownSentences, FunctionsAt, Accepted}
-use Rattle.image.proofs.Numbers.{Bytes}
-use Rattle.image.proofs.RoundTrip.{encode-decode}
+use Rattle.program.specs.Syntax.{Program}
+use Rattle.program.specs.Encode.{putFunctions, ownSentenceCount, encode}
+use Rattle.program.specs.Limits.{Valid}
+use Rattle.program.specs.Decode.{bodyLength}
+use Rattle.program.specs.Sentences.{ownSentences}
+use Rattle.image.specs.Parts.{FunctionsAt, Accepted}
+use Rattle.program.specs.Bytes.{Bytes}
+use Rattle.program.proofs.RoundTrip.{encode-decode}
 use Rattle.image.proofs.Accepted.{accepted-long}
-use Rattle.restrictions.specs.Lists.{any}
-use Rattle.restrictions.specs.Sites.{Site, programSites}
-use Rattle.restrictions.specs.Dispatch.{activatesACarriedCall, residualDispatchesDynamically}
-use Rattle.restrictions.specs.Entries.{Held}
-use Rattle.restrictions.proofs.Numbered.{numbered-sites, own-counted}
+use Rattle.meaning.specs.Lists.{any}
+use Rattle.meaning.specs.Sites.{Site, programSites}
+use Rattle.meaning.specs.Dispatch.{activatesACarriedCall, residualDispatchesDynamically}
+use Rattle.told.specs.Numbered.{Held, sitesOf}
+use Rattle.told.proofs.Numbered.{numbered-sites}
+use Rattle.program.proofs.Own.{own-counted}
 use Rattle.index.specs.declared.Plan.{Plan}
 use Rattle.index.specs.Layout.{calls}
 use Rattle.index.specs.Tables.{SitesAt}
 use Rattle.index.specs.Linking.{SomeSites}
-use Rattle.cleaning.specs.Indexed.{sitesOf}
 use Rattle.cleaning.specs.Prepared.{BodyOf, Enough, SomeProgram, ProgramListed}
-use Rattle.cleaning.proofs.Asked.{map-any}
+use Rattle.told.proofs.Asked.{map-any}
 use Rattle.cleaner.specs.Delivery.{Delivery}
 use Rattle.cleaner.specs.Done.{Done}
 

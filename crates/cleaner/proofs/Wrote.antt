@@ -8,22 +8,22 @@ use lib.Dec.{ltb}
 use lib.ListN.{length, take, drop}
 use lib.Seq.{paste, take-length}
 use borrow.Author.Tests.{lt-ltb, le-ltb}
-use Rattle.image.specs.Syntax.{Program}
-use Rattle.image.specs.Encode.{encode}
+use Rattle.program.specs.Syntax.{Program}
+use Rattle.program.specs.Encode.{encode}
 use Rattle.image.specs.Parts.{Accepted}
-use Rattle.image.proofs.Numbers.{Bytes}
-use Rattle.image.proofs.RoundTrip.{encode-decode}
-use Rattle.restrictions.specs.Dispatch.{residualDispatchesDynamically}
-use Rattle.cleaning.proofs.ToldReport.{dynamic-cleaned}
-use Rattle.cleaning.specs.Cleaning.{cleanResidualProgram}
-use Rattle.cleaning.specs.CleanReport.{CleanReport, cleanReport}
-use Rattle.cleaning.specs.Text.{Text}
-use Rattle.report.specs.Fill.{Emitted, filled}
-use Rattle.report.specs.Report.{formatCleanReport}
-use Rattle.report.proofs.Fill.{filled-start, filled-empty}
-use Rattle.cleaner.specs.declared.CleanAnswer.{CleanAnswer}
-use Rattle.cleaner.specs.CleanAnswers.{Left, cleanRefused, cleanedTo, zeroed, written, writing}
-use Rattle.cleaner.specs.Writing.{writingOf, lending, Wrote}
+use Rattle.program.specs.Bytes.{Bytes}
+use Rattle.program.proofs.RoundTrip.{encode-decode}
+use Rattle.meaning.specs.Dispatch.{residualDispatchesDynamically}
+use Rattle.told.proofs.ToldReport.{dynamic-cleaned}
+use Rattle.meaning.specs.Cleaning.{cleanResidualProgram}
+use Rattle.meaning.specs.CleanReport.{CleanReport, cleanReport}
+use Rattle.meaning.specs.Text.{Text}
+use Rattle.text.specs.Fill.{Emitted, filled}
+use Rattle.meaning.specs.Report.{formatCleanReport}
+use Rattle.text.proofs.Fill.{filled-start, filled-empty}
+use Rattle.answers.specs.declared.CleanAnswer.{CleanAnswer}
+use Rattle.answers.specs.CleanAnswers.{Left, cleanRefused, cleanedTo, zeroed, written, writing, lending}
+use Rattle.cleaner.specs.Writing.{writingOf, Wrote}
 
 -- The cleaned image and the text of w, whatever they are told by.
 module _ (w : Program) (image : List ℕ) (text : Text) (image-is : encode (cleanResidualProgram w) ≡ image) (text-is : formatCleanReport (cleanReport w) ≡ text) (text-short : length text < 1099511627776) (output report : List ℕ) where

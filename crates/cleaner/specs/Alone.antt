@@ -4,9 +4,9 @@ use mathlib.Core.Path.{_≡_}
 use mathlib.Core.Bool.{true}
 use mathlib.Core.List.{List}
 use lib.ListN.{length}
-use Rattle.image.specs.Encode.{ownSentenceCount}
+use Rattle.program.specs.Encode.{ownSentenceCount}
 use Rattle.image.specs.Parts.{Accepted}
-use Rattle.restrictions.specs.Dispatch.{residualDispatchesDynamically}
+use Rattle.meaning.specs.Dispatch.{residualDispatchesDynamically}
 
 pub record SomeAlone (image : List ℕ) (functions sentences : ℕ) : Type 0 where
   pub accepted : Accepted image

@@ -5,15 +5,15 @@ use mathlib.Core.Bool.{false, _&&_}
 use mathlib.Core.List.{List}
 use lib.Dec.{eqb, ltb}
 use lib.ListN.{take, drop}
-use Rattle.image.specs.Decode.{bodyLength}
+use Rattle.program.specs.Decode.{bodyLength}
 use Rattle.image.specs.Parts.{Accepted}
-use Rattle.restrictions.specs.Dispatch.{residualDispatchesDynamically}
+use Rattle.meaning.specs.Dispatch.{residualDispatchesDynamically}
 use Rattle.index.specs.declared.Plan.{Plan}
 use Rattle.index.specs.Layout.{marks, calls}
-use Rattle.cleaning.specs.Root.{rootPlace}
-use Rattle.cleaning.specs.Kept.{isKept}
+use Rattle.meaning.specs.Root.{rootPlace}
+use Rattle.told.specs.Kept.{isKept}
 use Rattle.cleaning.specs.Indexed.{fellOf}
-use Rattle.lines.specs.Removed.{Removing}
+use Rattle.report.specs.Removed.{Removing}
 
 -- The words of marks in work.
 abbrev pub marksIn : Plan → List ℕ → List ℕ

@@ -4,12 +4,12 @@ use mathlib.Core.Path.{_≡_}
 use mathlib.Core.Bool.{_&&_}
 use mathlib.Core.List.{List}
 use lib.Dec.{eqb, ltb}
-use Rattle.image.specs.Syntax.{Program}
+use Rattle.program.specs.Syntax.{Program}
 use Rattle.index.specs.declared.Plan.{Plan}
-use Rattle.cleaning.specs.Root.{rootPlace}
-use Rattle.cleaning.specs.Kept.{isKept}
+use Rattle.meaning.specs.Root.{rootPlace}
+use Rattle.told.specs.Kept.{isKept}
 use Rattle.cleaning.specs.Indexed.{fellOf}
-use Rattle.lines.specs.Removed.{Removing}
+use Rattle.report.specs.Removed.{Removing}
 use Rattle.cleaner.specs.Delivery.{marksIn}
 
 -- n rounds have been told, the root's place is known, and the sentences that never fell are marked.

@@ -1,10 +1,5 @@
-pub mod Answers
-pub mod CleanAnswers
-pub mod Packed
-pub mod Fitting
 pub mod Writing
 pub mod Alone
 pub mod Delivery
 pub mod Done
 pub mod Parts
-pub mod Demands

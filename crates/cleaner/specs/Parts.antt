@@ -3,9 +3,9 @@ use Prim.Native.Nat.{ℕ, _+_, _≤_}
 use mathlib.Core.Path.{_≡_}
 use mathlib.Core.List.{List}
 use lib.ListN.{length, drop}
-use Rattle.image.specs.Syntax.{Terms}
-use Rattle.image.specs.Encode.{putTerms}
-use Rattle.image.specs.Limits.{Mode, ValidTerms}
+use Rattle.program.specs.Syntax.{Terms}
+use Rattle.program.specs.Encode.{putTerms}
+use Rattle.program.specs.Limits.{Mode, ValidTerms}
 
 pub record PatternFrom (b : List ℕ) (p : ℕ) : Type 0 where
   pub terms : Terms

@@ -4,22 +4,19 @@ use mathlib.Core.Path.{_≡_}
 use mathlib.Core.Bool.{Bool}
 use mathlib.Core.List.{List}
 use lib.ListN.{length}
-use Rattle.image.specs.Syntax.{Program}
-use Rattle.image.specs.Encode.{encode}
-use Rattle.image.specs.Decode.{Answer, decode}
-use Rattle.image.proofs.Numbers.{Bytes}
-use Rattle.cleaning.specs.Cleaning.{cleanResidualProgram}
-use Rattle.cleaning.specs.CleanReport.{cleanReport}
-use Rattle.report.specs.Report.{formatCleanReport}
-use Rattle.cleaner.specs.declared.CleanAnswer.{CleanAnswer}
-use Rattle.cleaner.specs.CleanAnswers.{Lent, Left, writing}
+use Rattle.program.specs.Syntax.{Program}
+use Rattle.program.specs.Encode.{encode}
+use Rattle.program.specs.Decode.{Answer, decode}
+use Rattle.program.specs.Bytes.{Bytes}
+use Rattle.meaning.specs.Cleaning.{cleanResidualProgram}
+use Rattle.meaning.specs.CleanReport.{cleanReport}
+use Rattle.meaning.specs.Report.{formatCleanReport}
+use Rattle.answers.specs.declared.CleanAnswer.{CleanAnswer}
+use Rattle.answers.specs.CleanAnswers.{lending, Lent, Left, writing}
 
 -- The image and the text of w, written into what is lent.
 abbrev pub writingOf : Program → Lent → Left
 writingOf w l = writing (encode (cleanResidualProgram w)) (formatCleanReport (cleanReport w)) l
-
-abbrev pub lending : List ℕ → List ℕ → List ℕ → Lent
-lending output work report = record { output = output; work = work; report = report }
 
 -- Answer, output and report are those of Clean on w; `work` stands for any.
 pub record Wrote (w : Program) (output report : List ℕ) (answer : CleanAnswer) (output′ report′ : List ℕ) : Type 0 where

@@ -1,16 +1,16 @@
 // A program with a call of Mu or Up, which is left alone.
-use crate::CleanAnswer;
-use crate::Lengths;
 use crate::refused;
-use lines::format::format_unchanged;
+use answers::CleanAnswer;
+use answers::Lengths;
 use output::bytes::copy_bytes;
+use report::format::format_unchanged;
 ghost use mathlib.Core.Path.{_≡_};
 ghost use mathlib.Core.Bool.{true};
 ghost use Prim.Native.Nat.{_<_, _≤_};
 ghost use lib.ListN.{length};
-ghost use Rattle.image.specs.Encode.{ownSentenceCount};
+ghost use Rattle.program.specs.Encode.{ownSentenceCount};
 ghost use Rattle.image.specs.Parts.{Accepted};
-ghost use Rattle.restrictions.specs.Dispatch.{residualDispatchesDynamically};
+ghost use Rattle.meaning.specs.Dispatch.{residualDispatchesDynamically};
 ghost use Rattle.cleaner.specs.Writing.{Wrote};
 ghost use Rattle.cleaner.specs.Alone.{SomeAlone};
 

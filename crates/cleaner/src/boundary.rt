@@ -1,14 +1,13 @@
 // The entry points under C names, each with its answer packed into one number.
-use crate::CleanAnswer;
-use crate::OverlapAnswer;
 use crate::clean;
 use crate::overlap;
-use overlap::Verdict;
+use answers::CleanAnswer;
+use answers::OverlapAnswer;
+use patterns::Verdict;
 ghost use mathlib.Core.Path.{_≡_};
-ghost use Rattle.cleaner.specs.Answers.{overlapAnswer, verdictNumber};
-ghost use Rattle.cleaner.specs.CleanAnswers.{cleanAnswer};
-ghost use Rattle.cleaner.specs.Packed.{packed, FieldsFit, packClean, packOverlap, CleanFits};
-ghost use Rattle.cleaner.specs.Writing.{lending};
+ghost use Rattle.answers.specs.Answers.{overlapAnswer, verdictNumber};
+ghost use Rattle.answers.specs.CleanAnswers.{cleanAnswer, lending};
+ghost use Rattle.answers.specs.Packed.{packed, FieldsFit, packClean, packOverlap, CleanFits};
 
 // Bits 0 to 7 the refusal's number or 0, 8 to 23 the middle, 24 to 63 the rest.
 fn pack(number: u64, middle: u64, rest: u64) -> u64

@@ -5,42 +5,23 @@ mod listed;
 mod told;
 mod whole;
 
+use answers::CleanAnswer;
+use answers::Comparison;
+use answers::Lengths;
+use answers::OverlapAnswer;
 use image::part::Found as Place;
 use image::reader::Checked;
-use image::reader::Refusal;
 use overlap::Room;
-use overlap::Verdict;
+use patterns::Verdict;
+use program::Refusal;
 ghost use mathlib.Core.Path.{_≡_};
 ghost use Prim.Native.Nat.{_≤_};
 ghost use lib.ListN.{length};
 ghost use Rattle.image.specs.Parts.{Accepted};
-ghost use Rattle.cleaner.specs.Answers.{overlapAnswer, compareSentences, comparePatterns};
-ghost use Rattle.cleaner.specs.CleanAnswers.{cleanRefused, cleanAnswer};
-ghost use Rattle.cleaner.specs.Packed.{CleanFits};
-ghost use Rattle.cleaner.specs.Writing.{lending};
+ghost use Rattle.answers.specs.Answers.{overlapAnswer, compareSentences, comparePatterns};
+ghost use Rattle.answers.specs.CleanAnswers.{cleanRefused, cleanAnswer, lending};
+ghost use Rattle.answers.specs.Packed.{CleanFits};
 ghost use Rattle.cleaner.specs.Parts.{PatternFrom};
-
-// What Overlap says of two patterns: the verdict, and the entries spent by the outermost pair.
-pub struct Comparison {
-    pub verdict: Verdict,
-    pub spent: u32,
-}
-
-// How long the cleaned image and the report are.
-pub struct Lengths {
-    pub output: usize,
-    pub report: usize,
-}
-
-pub enum CleanAnswer {
-    Cleaned(Lengths),
-    Refused(Refusal),
-}
-
-pub enum OverlapAnswer {
-    Compared(Comparison),
-    Refused(Refusal),
-}
 
 // A refusal of Clean.
 pub fn refused(number: u8, place: usize) -> CleanAnswer

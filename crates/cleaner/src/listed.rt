@@ -9,7 +9,7 @@ use output::left::mark_left;
 ghost use Prim.Native.Nat.{_<_, _≤_};
 ghost use lib.ListN.{length};
 ghost use mathlib.Core.Path.{_≡_};
-ghost use Rattle.image.specs.Syntax.{Program};
+ghost use Rattle.program.specs.Syntax.{Program};
 ghost use Rattle.cleaning.specs.Room.{Remembering};
 ghost use Rattle.cleaning.specs.Prepared.{ProgramListed, SomeListing};
 ghost use Rattle.cleaner.specs.Done.{Done};

@@ -1,18 +1,18 @@
 // A program that is cleaned, once its rounds are done.
-use crate::CleanAnswer;
-use crate::Lengths;
 use crate::refused;
+use answers::CleanAnswer;
+use answers::Lengths;
 use cleaning::walks::calls_of;
 use index::Plan;
-use lines::format::count_lists;
-use lines::format::format_clean_report;
-use lines::format::measure_clean_report;
 use output::mark::count_ones;
 use output::writer::write_kept;
+use report::format::count_lists;
+use report::format::format_clean_report;
+use report::format::measure_clean_report;
 ghost use Prim.Native.Nat.{_≤_};
 ghost use lib.ListN.{length, take};
 ghost use mathlib.Core.Path.{_≡_};
-ghost use Rattle.image.specs.Decode.{bodyLength};
+ghost use Rattle.program.specs.Decode.{bodyLength};
 ghost use Rattle.image.specs.Parts.{Accepted};
 ghost use Rattle.cleaning.specs.Room.{Remembering};
 ghost use Rattle.cleaner.specs.Writing.{Wrote};

@@ -1,8 +1,8 @@
 // Clean on an accepted image.
-use crate::CleanAnswer;
 use crate::alone::leave_alone;
 use crate::listed::clean_listed;
 use crate::told::deliver;
+use answers::CleanAnswer;
 use cleaning::prepare::list_program;
 use cleaning::walks::calls_of;
 use image::part::function_count;
@@ -15,7 +15,7 @@ ghost use mathlib.Core.Path.{_≡_};
 ghost use Prim.Native.Nat.{_+_, _/_, _≤_};
 ghost use lib.ListN.{length};
 ghost use Rattle.image.specs.Parts.{Accepted};
-ghost use Rattle.cleaner.specs.CleanAnswers.{zeroed};
+ghost use Rattle.answers.specs.CleanAnswers.{zeroed};
 ghost use Rattle.cleaner.specs.Writing.{Wrote};
 
 // The same with as many entries of work as the image needs, which are left as they come.

@@ -7,24 +7,25 @@ use mathlib.Core.List.{List}
 use lib.Dec.{ltb}
 use lib.ListN.{getD}
 use borrow.Author.Tests.{ltb-true, ltb-false}
-use Rattle.image.specs.Syntax.{Program}
-use Rattle.image.specs.Encode.{ownSentenceCount}
-use Rattle.image.specs.Parts.{ownSentences}
-use Rattle.restrictions.proofs.Numbered.{own-counted}
+use Rattle.program.specs.Syntax.{Program}
+use Rattle.program.specs.Encode.{ownSentenceCount}
+use Rattle.program.specs.Sentences.{ownSentences}
+use Rattle.program.proofs.Own.{own-counted}
 use Rattle.index.specs.declared.Plan.{Plan}
 use Rattle.index.specs.Layout.{witnesses}
 use Rattle.index.proofs.First.{element-below}
-use Rattle.cleaning.specs.Root.{rootPlace}
-use Rattle.cleaning.specs.Cleaning.{round, isRoot}
-use Rattle.cleaning.specs.Kept.{keptProgram}
-use Rattle.cleaning.specs.History.{isThere, FunctionsLeft, RoundTold, startOf, someNumber, someFell}
-use Rattle.cleaning.specs.Indexed.{sitesOf, Indexed, fellOf, OnlyRounds}
+use Rattle.meaning.specs.Root.{rootPlace}
+use Rattle.meaning.specs.Cleaning.{round, isRoot}
+use Rattle.told.specs.Kept.{keptProgram}
+use Rattle.told.specs.History.{isThere, FunctionsLeft, RoundTold, startOf, someNumber, someFell}
+use Rattle.told.specs.Numbered.{sitesOf}
+use Rattle.cleaning.specs.Indexed.{Indexed, fellOf, OnlyRounds}
 use Rattle.cleaning.specs.Walks.{WitnessOf, Witnessed}
 use Rattle.cleaning.specs.RoundDone.{RoundReady, RoundMade, RoundsReady, RoundsMade}
-use Rattle.cleaning.proofs.Counts.{round-fewer}
-use Rattle.cleaning.proofs.History.{there-first, there-after, round-left, round-drops}
+use Rattle.meaning.proofs.Counts.{round-fewer}
+use Rattle.told.proofs.History.{there-first, there-after, round-left, round-drops}
 use Rattle.cleaning.proofs.Indexed.{only-rounds-indexed}
-use Rattle.cleaning.proofs.Kept.{all-kept}
+use Rattle.told.proofs.Kept.{all-kept}
 use Rattle.cleaning.proofs.RoundCode.{only-same, only-on}
 
 -- ---- what a round tells depends only on what is there at its start and at the next

@@ -6,14 +6,15 @@ use mathlib.Core.Bool.{Bool, true, false, _&&_, true≢false}
 use mathlib.Core.List.{List}
 use mathlib.Core.Option.{some}
 use lib.ListN.{length, getD, getElem?}
-use Rattle.image.specs.Syntax.{Name, Function, Program}
-use Rattle.symbols.specs.Names.{sameName}
-use Rattle.symbols.proofs.Names.{sameName-sym, sameName-trans}
-use Rattle.configuration.specs.Configuration.{sameConfiguration}
-use Rattle.restrictions.specs.Entries.{Held, Entry}
+use Rattle.program.specs.Syntax.{Name, Function, Program}
+use Rattle.patterns.specs.Names.{sameName}
+use Rattle.patterns.proofs.Names.{sameName-sym, sameName-trans}
+use Rattle.patterns.specs.Configuration.{sameConfiguration}
+use Rattle.told.specs.Numbered.{Held, sitesOf}
+use Rattle.restrictions.specs.Entries.{Entry}
 use Rattle.index.specs.declared.Plan.{Plan}
 use Rattle.index.specs.First.{First}
-use Rattle.index.specs.Calls.{isCallOf, isListed}
+use Rattle.told.specs.Calls.{isCallOf, isListed}
 use Rattle.index.specs.Layout.{calls, links}
 use Rattle.index.specs.Links.{listHead, entryClass, isRepeat, Classed}
 use Rattle.index.specs.Lists.{ListAt, OnlyClasses}
@@ -21,7 +22,6 @@ use Rattle.index.proofs.Calls.{listed-call, same-lists}
 use Rattle.index.proofs.Entries.{below-or-here}
 use Rattle.index.proofs.First.{element-below, element-same}
 use Rattle.index.proofs.Firsts.{first-agree}
-use Rattle.cleaning.specs.Indexed.{sitesOf}
 use Rattle.cleaning.specs.Prepared.{Chains, ClassesWritten}
 
 -- Two functions that both have the site y have one name.

@@ -8,16 +8,16 @@ use lib.Dec.{eqb, ltb}
 use lib.ListN.{length, getD, set}
 use lib.Seq.{getD-set-same}
 use borrow.Author.Tests.{eq-eqb, ne-eqb, ltb-true, ltb-false}
-use Rattle.image.specs.Syntax.{Program}
-use Rattle.restrictions.proofs.Numbered.{own-counted}
+use Rattle.program.specs.Syntax.{Program}
+use Rattle.program.proofs.Own.{own-counted}
 use Rattle.index.specs.declared.Plan.{Plan}
 use Rattle.index.specs.Layout.{lines, witnesses, marks}
-use Rattle.index.specs.Tables.{sentencesBefore}
+use Rattle.told.specs.Numbered.{sentencesBefore}
 use Rattle.index.proofs.First.{element-at}
-use Rattle.cleaning.specs.History.{someNumber}
+use Rattle.told.specs.History.{someNumber}
 use Rattle.cleaning.specs.Indexed.{Indexed, fellOf}
 use Rattle.cleaning.specs.RoundDone.{isSpent, fallsNow, SentenceDropped, SentencesDropped}
-use Rattle.cleaning.proofs.History.{some-append}
+use Rattle.told.proofs.History.{some-append}
 use Rattle.cleaning.proofs.Indexed.{fell-is}
 use Rattle.cleaning.proofs.Owned.{before-end}
 use Rattle.cleaning.proofs.Witnesses.{one-written, none-written}

@@ -6,12 +6,12 @@ use mathlib.Core.List.{List, [], _∷_, map}
 use mathlib.Core.Option.{Option, none, some, Option·map, Option·getD}
 use lib.ListN.{length, getD, getElem?, drop, length-drop}
 use lib.Seq.{getD-drop}
-use Rattle.image.specs.Syntax.{Visibility, local, entry, Function}
-use Rattle.image.specs.Bytes.{put32, putSpan, putName}
-use Rattle.image.specs.Encode.{visibilityByte, putFunction}
+use Rattle.program.specs.Syntax.{Visibility, local, entry, Function}
+use Rattle.program.specs.Bytes.{put32, putSpan, putName}
+use Rattle.program.specs.Encode.{visibilityByte, putFunction}
 use Rattle.image.specs.Parts.{FunctionAt}
 use Rattle.index.proofs.Entries.{below-or-here, same-element}
-use Rattle.cleaning.specs.Root.{entryPlace}
+use Rattle.meaning.specs.Root.{entryPlace}
 
 pub entry-byte : (v : Visibility) → visibilityByte v ≡ 1 → v ≡ entry
 unfolding visibilityByte

@@ -8,20 +8,21 @@ use mathlib.Core.Option.{some}
 use borrow.Author.Tests.{ltb-true, lt-ltb}
 use lib.Dec.{ltb}
 use lib.ListN.{length, getD, getElem?, drop}
-use Rattle.image.specs.Syntax.{Name, Terms, Function, Program}
-use Rattle.image.specs.Parts.{Sentence, SentenceAt, ownSentences}
-use Rattle.restrictions.specs.Sites.{Site}
-use Rattle.restrictions.specs.Entries.{Held, Entry, heldBy, entrySentence}
-use Rattle.restrictions.specs.Numbered.{ownSites, heldSites}
+use Rattle.program.specs.Syntax.{Name, Terms, Function, Program}
+use Rattle.program.specs.Sentences.{Sentence, ownSentences}
+use Rattle.image.specs.Parts.{SentenceAt}
+use Rattle.meaning.specs.Sites.{Site}
+use Rattle.told.specs.Numbered.{Held, heldBy, ownSites, heldSites, sentencesBefore, sitesOf}
+use Rattle.restrictions.specs.Entries.{Entry, entrySentence}
 use Rattle.index.specs.declared.Plan.{Plan}
 use Rattle.index.specs.Layout.{heads, lines, marks, calls, links}
 use Rattle.index.specs.First.{First}
-use Rattle.index.specs.Tables.{sentencesBefore, FunctionEntry, SentenceEntry}
-use Rattle.index.specs.Calls.{isListed}
+use Rattle.index.specs.Tables.{FunctionEntry, SentenceEntry}
+use Rattle.told.specs.Calls.{isListed}
 use Rattle.index.specs.Links.{listHead, entryNext, entryClass, isRepeat, Chain, Classed}
 use Rattle.index.proofs.First.{element-below}
-use Rattle.cleaning.specs.Asked.{restricts, isMet, meets}
-use Rattle.cleaning.specs.Indexed.{sitesOf, Indexed, fellOf, OnlyRounds}
+use Rattle.told.specs.Asked.{restricts, isMet, meets}
+use Rattle.cleaning.specs.Indexed.{Indexed, fellOf, OnlyRounds}
 use Rattle.cleaning.specs.Walks.{Walkable, NoneMet, WitnessOf}
 
 -- ---- the number of a site's sentence

@@ -8,15 +8,15 @@ use mathlib.Core.Option.{some}
 use lib.Dec.{eqb, ltb}
 use lib.ListN.{length, getD, getElem?}
 use borrow.Author.Tests.{eqb-true, eqb-false, ltb-true, ltb-false}
-use Rattle.image.specs.Syntax.{Function, Program}
-use Rattle.image.specs.Parts.{Sentence, ownSentences}
-use Rattle.restrictions.proofs.Numbered.{own-counted}
+use Rattle.program.specs.Syntax.{Function, Program}
+use Rattle.program.specs.Sentences.{Sentence, ownSentences}
+use Rattle.program.proofs.Own.{own-counted}
 use Rattle.index.specs.declared.Plan.{Plan}
 use Rattle.index.specs.Layout.{lines, witnesses}
-use Rattle.index.specs.Tables.{sentencesBefore}
+use Rattle.told.specs.Numbered.{sentencesBefore, sitesOf}
 use Rattle.index.proofs.First.{Element, element-at, element-below, element-same}
-use Rattle.cleaning.specs.History.{isThere}
-use Rattle.cleaning.specs.Indexed.{sitesOf, Indexed, fellOf, OnlyRounds}
+use Rattle.told.specs.History.{isThere}
+use Rattle.cleaning.specs.Indexed.{Indexed, fellOf, OnlyRounds}
 use Rattle.cleaning.specs.Walks.{Owns, OneColumn, ColumnsApart, WitnessOf, Witnessed, StillMet, SomeOwned}
 use Rattle.cleaning.specs.RoundDone.{isSpent, isMetBy, OneMet, JudgedUpto, SentenceJudged}
 use Rattle.cleaning.proofs.Indexed.{only-rounds-indexed, fell-from}

@@ -8,21 +8,22 @@ use mathlib.Core.Option.{some}
 use borrow.Author.Tests.{ltb-true}
 use lib.Dec.{ltb}
 use lib.ListN.{length, getD}
-use Rattle.image.specs.Syntax.{Program}
-use Rattle.image.specs.Parts.{ownSentences}
+use Rattle.program.specs.Syntax.{Program}
+use Rattle.program.specs.Sentences.{ownSentences}
 use Rattle.index.specs.declared.Plan.{Plan}
 use Rattle.index.specs.First.{First}
 use Rattle.index.specs.Bucket.{Filed}
-use Rattle.index.specs.Calls.{isListed}
+use Rattle.told.specs.Calls.{isListed}
 use Rattle.index.specs.Layout.{heads, lines, calls, links}
-use Rattle.index.specs.Tables.{sentencesBefore, FunctionEntry, SentenceEntry, SitesAt, Apart}
+use Rattle.told.specs.Numbered.{sentencesBefore, sitesOf}
+use Rattle.index.specs.Tables.{FunctionEntry, SentenceEntry, SitesAt, Apart}
 use Rattle.index.specs.Tabled.{Tabled, SomeFiled}
 use Rattle.index.specs.Linking.{Columns, LinksOnly}
 use Rattle.index.specs.Linking as linking
 use Rattle.index.specs.Links.{listHead, entryNext, Headed, Chained}
 use Rattle.index.proofs.First.{element-below}
 use Rattle.index.proofs.Preserved.{tabled-same, sites-same, filed-apart, indexed-after, some-filed-after}
-use Rattle.cleaning.specs.Indexed.{sitesOf, Indexed, fellOf}
+use Rattle.cleaning.specs.Indexed.{Indexed, fellOf}
 use Rattle.cleaning.specs.Prepared.{ProgramListed, Chains, ListsKept, ClassesWritten, ProgramLinked}
 
 -- The columns behind the sites, when those begin at r.

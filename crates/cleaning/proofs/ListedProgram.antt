@@ -6,17 +6,19 @@ use mathlib.Core.List.{List, [], _∷_, _++_}
 use mathlib.Core.Option.{some}
 use lib.ListN.{length, getD, getElem?, take, drop, length-append, length-drop, List·getD-append}
 use lib.Seq.{length-take-le, getD-append-add, getD-take}
-use Rattle.image.specs.Syntax.{Function, Program}
-use Rattle.image.specs.Automaton.{Stack, Read, run}
-use Rattle.image.specs.Parts.{ownSentences, FunctionsAt}
-use Rattle.image.proofs.Complete.{run-functions}
-use Rattle.restrictions.specs.Entries.{Held, Entry, SitesIn, Appended}
-use Rattle.restrictions.specs.Numbered.{heldSites, RoomForFunctions}
+use Rattle.program.specs.Syntax.{Function, Program}
+use Rattle.program.specs.Automaton.{Stack, Read, run}
+use Rattle.program.specs.Sentences.{ownSentences}
+use Rattle.image.specs.Parts.{FunctionsAt}
+use Rattle.program.proofs.Complete.{run-functions}
+use Rattle.told.specs.Numbered.{Held, heldSites, sentencesBefore, sitesOf}
+use Rattle.restrictions.specs.Entries.{Entry, SitesIn, Appended}
+use Rattle.restrictions.specs.Numbered.{RoomForFunctions}
 use Rattle.restrictions.proofs.Bytes.{functions-bytes}
-use Rattle.restrictions.proofs.Numbered.{numbered-length, own-counted}
-use Rattle.index.specs.Tables.{sentencesBefore, FunctionEntry, SentenceEntry, FunctionsIn, SentencesIn, SitesAt}
+use Rattle.told.proofs.Numbered.{numbered-length}
+use Rattle.program.proofs.Own.{own-counted}
+use Rattle.index.specs.Tables.{FunctionEntry, SentenceEntry, FunctionsIn, SentencesIn, SitesAt}
 use Rattle.index.proofs.First.{element-below}
-use Rattle.cleaning.specs.Indexed.{sitesOf}
 use Rattle.cleaning.specs.Prepared.{BodyOf, Enough, ProgramListed}
 
 -- The bytes say which functions they hold.

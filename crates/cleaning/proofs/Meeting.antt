@@ -6,31 +6,32 @@ use mathlib.Core.Bool.{Bool, true, false, _&&_, not, true≢false, false≢true,
 use mathlib.Core.List.{List}
 use mathlib.Core.Option.{some}
 use lib.ListN.{length, getD, getElem?, drop, length-drop}
-use Rattle.image.specs.Syntax.{Name, Terms, Function, Program}
-use Rattle.image.specs.Encode.{putTerms}
-use Rattle.image.specs.Limits.{Mode}
+use Rattle.program.specs.Syntax.{Name, Terms, Function, Program}
+use Rattle.program.specs.Encode.{putTerms}
+use Rattle.program.specs.Limits.{Mode}
 use Rattle.image.specs.Parts.{TermsAt}
 use Rattle.image.proofs.Readings.{terms-room}
 use Rattle.symbols.proofs.Parts.{part-rest}
-use Rattle.overlap.specs.declared.Verdict.{Verdict}
-use Rattle.overlap.specs.declared.Verdict.the-variants.{Disjoint, Overlap, Unknown}
-use Rattle.overlap.specs.declared.Found as search
-use Rattle.overlap.specs.Search.{patternsOverlap, sequence, start}
+use Rattle.patterns.specs.declared.Verdict.{Verdict}
+use Rattle.patterns.specs.declared.Verdict.the-variants.{Disjoint, Overlap, Unknown}
+use Rattle.patterns.specs.declared.Found as search
+use Rattle.patterns.specs.Search.{patternsOverlap, sequence, start}
 use Rattle.overlap.specs.Steps as steps
 use Rattle.overlap.proofs.Readings.{part}
-use Rattle.configuration.specs.Configuration.{sameConfiguration}
-use Rattle.restrictions.specs.Entries.{Held, entrySentence}
-use Rattle.restrictions.proofs.Verdicts.{same-verdict}
+use Rattle.patterns.specs.Configuration.{sameConfiguration}
+use Rattle.told.specs.Numbered.{Held, sitesOf}
+use Rattle.restrictions.specs.Entries.{entrySentence}
+use Rattle.meaning.proofs.Verdicts.{same-verdict}
 use Rattle.index.specs.declared.Plan.{Plan}
 use Rattle.index.specs.Layout.{heads, calls, links}
 use Rattle.index.specs.First.{First}
-use Rattle.index.specs.Calls.{isListed}
+use Rattle.told.specs.Calls.{isListed}
 use Rattle.index.specs.Links.{listHead, entryNext, entryClass, isRepeat}
 use Rattle.index.specs.Lists.{ListAt, Among}
 use Rattle.index.proofs.First.{Element, element-at, element-below}
-use Rattle.cleaning.specs.Cleaning.{isDisjoint}
-use Rattle.cleaning.specs.Asked.{restricts, isMet, meets}
-use Rattle.cleaning.specs.Indexed.{sitesOf, Indexed}
+use Rattle.meaning.specs.Cleaning.{isDisjoint}
+use Rattle.told.specs.Asked.{restricts, isMet, meets}
+use Rattle.cleaning.specs.Indexed.{Indexed}
 use Rattle.cleaning.specs.Walks.{NoneMet, MetAt, OnList}
 use Rattle.cleaning.proofs.Indexed.{indexed-walkable}
 use Rattle.cleaning.proofs.Walking.{and-left, and-none, Going, going-end, going-found, going-next}

@@ -8,11 +8,11 @@ use mathlib.Core.Option.{Option, none, some, Option·some-ne-none, Option·some-
 use lib.Dec.{ltb}
 use borrow.Author.Tests.{ltb-true, ltb-false}
 use lib.ListN.{length, getElem?, length-append}
-use Rattle.image.specs.Syntax.{Sentences, empty, sentence, Function, Program}
-use Rattle.image.specs.Encode.{sentenceCount, ownSentenceCount}
-use Rattle.image.specs.Parts.{Sentence, sentenceList, ownSentences}
-use Rattle.restrictions.proofs.Numbered.{sentences-counted, own-counted}
-use Rattle.index.specs.Tables.{sentencesBefore}
+use Rattle.program.specs.Syntax.{Sentences, empty, sentence, Function, Program}
+use Rattle.program.specs.Encode.{sentenceCount, ownSentenceCount}
+use Rattle.program.specs.Sentences.{Sentence, sentenceList, ownSentences}
+use Rattle.program.proofs.Own.{sentences-counted, own-counted}
+use Rattle.told.specs.Numbered.{sentencesBefore}
 use Rattle.cleaning.specs.Walks.{Owns}
 
 -- ---- elements of two lists, one behind the other

@@ -12,7 +12,7 @@ use lib.Seq.{take-all, drop-at, getD-take, getD-drop, getD-set-other, length-tak
 use borrow.Rule.Slice.PartMut.{midOf, postOf, putMid, same-len-mid}
 use Rattle.overlap.specs.declared.Room as lent
 use Rattle.overlap.specs.Memory.{Truthful, PairTold, EndTold, SplitTold, tables, Remembers, Searched}
-use Rattle.image.specs.Syntax.{Program}
+use Rattle.program.specs.Syntax.{Program}
 use Rattle.index.specs.declared.Plan.{Plan}
 use Rattle.index.specs.Layout.{lines, room}
 use Rattle.cleaning.specs.Indexed.{Indexed, fellOf, OnlyRounds}

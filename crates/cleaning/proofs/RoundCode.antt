@@ -8,16 +8,16 @@ use mathlib.Core.Option.{some}
 use lib.Dec.{eqb, leb, ltb}
 use lib.ListN.{length, getD, getElem?}
 use borrow.Author.Tests.{ltb-true, ltb-false, leb-true, le-leb}
-use Rattle.image.specs.Syntax.{Function, Program}
-use Rattle.image.specs.Parts.{Sentence}
-use Rattle.restrictions.proofs.Numbered.{own-counted}
+use Rattle.program.specs.Syntax.{Function, Program}
+use Rattle.program.specs.Sentences.{Sentence}
+use Rattle.program.proofs.Own.{own-counted}
 use Rattle.index.specs.declared.Plan.{Plan}
 use Rattle.index.specs.Layout.{lines, witnesses}
-use Rattle.index.specs.Tables.{sentencesBefore}
-use Rattle.cleaning.specs.Root.{rootPlace}
-use Rattle.cleaning.specs.Asked.{isJudged}
-use Rattle.cleaning.specs.History.{isThere, someNumber}
-use Rattle.cleaning.specs.Indexed.{sitesOf, Indexed, fellOf, OnlyRounds}
+use Rattle.told.specs.Numbered.{sentencesBefore, sitesOf}
+use Rattle.meaning.specs.Root.{rootPlace}
+use Rattle.told.specs.Asked.{isJudged}
+use Rattle.told.specs.History.{isThere, someNumber}
+use Rattle.cleaning.specs.Indexed.{Indexed, fellOf, OnlyRounds}
 use Rattle.cleaning.specs.Room.{Remembering}
 use Rattle.cleaning.specs.Walks.{Owns, ColumnsApart, WitnessOf, Witnessed}
 use Rattle.cleaning.specs.RoundDone.{rejectsIn, someIn, RoundSoFar, isSpent, JudgedUpto, fallsNow, OneFell, Changed, SentencesDropped, RoundReady, RoundAt, RoundMade}

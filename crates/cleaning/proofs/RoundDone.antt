@@ -8,16 +8,14 @@ use mathlib.Core.Option.{some}
 use lib.Dec.{eqb, leb, ltb}
 use lib.ListN.{length, getElem?}
 use borrow.Author.Tests.{eqb-true, eq-eqb, ltb-true, ltb-false, le-leb, lt-leb, ne-eqb}
-use Rattle.image.specs.Syntax.{Terms, Sentences, empty, sentence, Function, Program}
-use Rattle.image.specs.Encode.{sentenceCount, ownSentenceCount}
-use Rattle.image.specs.Parts.{Sentence, sentenceList, ownSentences}
-use Rattle.restrictions.specs.Entries.{Held}
-use Rattle.restrictions.proofs.Numbered.{sentences-counted, own-counted}
-use Rattle.index.specs.Tables.{sentencesBefore}
+use Rattle.program.specs.Syntax.{Terms, Sentences, empty, sentence, Function, Program}
+use Rattle.program.specs.Encode.{sentenceCount, ownSentenceCount}
+use Rattle.program.specs.Sentences.{Sentence, sentenceList, ownSentences}
+use Rattle.told.specs.Numbered.{Held, sentencesBefore, sitesOf}
+use Rattle.program.proofs.Own.{sentences-counted, own-counted}
 use Rattle.index.proofs.First.{Element, element-at, element-below}
-use Rattle.cleaning.specs.Root.{rootPlace}
-use Rattle.cleaning.specs.History.{isThere, someAccepted, SentencesLeft, rejects, FunctionsLeft, RoundTold}
-use Rattle.cleaning.specs.Indexed.{sitesOf}
+use Rattle.meaning.specs.Root.{rootPlace}
+use Rattle.told.specs.History.{isThere, someAccepted, SentencesLeft, rejects, FunctionsLeft, RoundTold}
 use Rattle.cleaning.specs.Walks.{Owns}
 use Rattle.cleaning.specs.RoundDone.{rejectsIn, someIn, FunctionDone, RoundSoFar}
 use Rattle.cleaning.proofs.Owned.{before-next, before-most, before-later, own-element, Owner, owner}

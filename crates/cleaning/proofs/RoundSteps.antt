@@ -8,16 +8,15 @@ use mathlib.Core.Option.{some, Option·some-injective}
 use lib.Dec.{eqb, leb, ltb}
 use lib.ListN.{length, getElem?}
 use borrow.Author.Tests.{eqb-true, eqb-false, eq-eqb, ne-eqb, ltb-true, ltb-false, le-leb, lt-leb}
-use Rattle.image.specs.Syntax.{Terms, Sentences, empty, sentence, Function, Program}
-use Rattle.image.specs.Encode.{sentenceCount, ownSentenceCount}
-use Rattle.image.specs.Parts.{Sentence, sentenceList, ownSentences}
-use Rattle.restrictions.specs.Lists.{any}
-use Rattle.restrictions.proofs.Numbered.{sentences-counted}
-use Rattle.index.specs.Tables.{sentencesBefore}
-use Rattle.cleaning.specs.Root.{rootPlace}
-use Rattle.cleaning.specs.Asked.{meets, isJudged, isRejected}
-use Rattle.cleaning.specs.History.{isThere, someAccepted, rejects, someNumber, someFell}
-use Rattle.cleaning.specs.Indexed.{sitesOf}
+use Rattle.program.specs.Syntax.{Terms, Sentences, empty, sentence, Function, Program}
+use Rattle.program.specs.Encode.{sentenceCount, ownSentenceCount}
+use Rattle.program.specs.Sentences.{Sentence, sentenceList, ownSentences}
+use Rattle.meaning.specs.Lists.{any}
+use Rattle.program.proofs.Own.{sentences-counted}
+use Rattle.told.specs.Numbered.{sentencesBefore, sitesOf}
+use Rattle.meaning.specs.Root.{rootPlace}
+use Rattle.told.specs.Asked.{meets, isJudged, isRejected}
+use Rattle.told.specs.History.{isThere, someAccepted, rejects, someNumber, someFell}
 use Rattle.cleaning.specs.Walks.{Owns}
 use Rattle.cleaning.specs.RoundDone.{rejectsIn, someIn, FunctionDone, RoundSoFar, isMetBy, OneMet, Changed, OneFell}
 use Rattle.cleaning.proofs.Owned.{before-next, before-later, own-element}

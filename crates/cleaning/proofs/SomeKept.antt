@@ -8,24 +8,23 @@ use mathlib.Core.Option.{some, Option·some-injective}
 use lib.Dec.{ltb}
 use lib.ListN.{length, getElem?}
 use borrow.Author.Tests.{ltb-true, ltb-false, le-ltb, lt-ltb}
-use Rattle.image.specs.Syntax.{Function, Program}
-use Rattle.image.specs.Encode.{sentenceCount, ownSentenceCount}
-use Rattle.image.specs.Parts.{Sentence, ownSentences}
-use Rattle.restrictions.specs.Sites.{Site, programSites}
-use Rattle.restrictions.specs.Dispatch.{residualDispatchesDynamically}
-use Rattle.restrictions.proofs.Numbered.{own-counted}
-use Rattle.index.specs.Tables.{sentencesBefore}
+use Rattle.program.specs.Syntax.{Function, Program}
+use Rattle.program.specs.Encode.{sentenceCount, ownSentenceCount}
+use Rattle.program.specs.Sentences.{Sentence, ownSentences}
+use Rattle.meaning.specs.Sites.{Site, programSites}
+use Rattle.meaning.specs.Dispatch.{residualDispatchesDynamically}
+use Rattle.program.proofs.Own.{own-counted}
+use Rattle.told.specs.Numbered.{sentencesBefore, sitesOf}
 use Rattle.index.proofs.First.{Element, element-at, element-same}
-use Rattle.cleaning.specs.Root.{rootPlace}
-use Rattle.cleaning.specs.Cleaning.{changes, round, changed, leftBy, dropsNothing, Round, roundsUpTo, roundsOf, isRoot, rounds, after, cleanResidualProgram}
-use Rattle.cleaning.specs.Kept.{keptFunctions, keptProgram}
-use Rattle.cleaning.specs.KeptSites.{keptSites}
-use Rattle.cleaning.specs.History.{FunctionsLeft}
-use Rattle.cleaning.specs.Indexed.{sitesOf}
+use Rattle.meaning.specs.Root.{rootPlace}
+use Rattle.meaning.specs.Cleaning.{changes, round, changed, leftBy, dropsNothing, Round, roundsUpTo, roundsOf, isRoot, rounds, after, cleanResidualProgram}
+use Rattle.told.specs.Kept.{keptFunctions, keptProgram}
+use Rattle.told.specs.KeptSites.{keptSites}
+use Rattle.told.specs.History.{FunctionsLeft}
 use Rattle.cleaning.specs.RoundDone.{rejectsIn, someIn}
-use Rattle.cleaning.proofs.Kept.{all-kept}
-use Rattle.cleaning.proofs.KeptSites.{kept-sites}
-use Rattle.cleaning.proofs.History.{changed-functions}
+use Rattle.told.proofs.Kept.{all-kept}
+use Rattle.told.proofs.KeptSites.{kept-sites}
+use Rattle.told.proofs.History.{changed-functions}
 use Rattle.cleaning.proofs.Owned.{before-next, before-most, before-later, own-element, Owner, owner}
 use Rattle.cleaning.proofs.RoundDone.{sentences-left, LeftAt, moved, functions-left}
 

@@ -8,18 +8,19 @@ use mathlib.Core.Option.{some}
 use borrow.Author.Tests.{ltb-true, ltb-false, lt-ltb, le-ltb, eqb-true, eqb-false, eq-eqb, ne-eqb}
 use lib.Dec.{eqb, leb, ltb}
 use lib.ListN.{length, getD, getElem?}
-use Rattle.image.specs.Syntax.{Name, Function, Program}
-use Rattle.restrictions.specs.Lists.{any}
-use Rattle.restrictions.specs.Entries.{Held, entrySentence}
+use Rattle.program.specs.Syntax.{Name, Function, Program}
+use Rattle.meaning.specs.Lists.{any}
+use Rattle.told.specs.Numbered.{Held, sitesOf}
+use Rattle.restrictions.specs.Entries.{entrySentence}
 use Rattle.index.specs.declared.Plan.{Plan}
 use Rattle.index.specs.Layout.{heads, calls, links}
 use Rattle.index.specs.First.{First}
-use Rattle.index.specs.Calls.{isListed}
+use Rattle.told.specs.Calls.{isListed}
 use Rattle.index.specs.Links.{listHead, entryNext}
 use Rattle.index.proofs.First.{Element, element-at, element-below, element-same, first-any}
-use Rattle.cleaning.specs.History.{isThere}
-use Rattle.cleaning.specs.Asked.{opens, restricts, isJudged}
-use Rattle.cleaning.specs.Indexed.{sitesOf, Indexed}
+use Rattle.told.specs.History.{isThere}
+use Rattle.told.specs.Asked.{opens, restricts, isJudged}
+use Rattle.cleaning.specs.Indexed.{Indexed}
 use Rattle.cleaning.specs.Walks.{Walkable, SomeWalk, isThereListed, witnessFrom}
 use Rattle.cleaning.proofs.Indexed.{indexed-walkable}
 

@@ -9,20 +9,20 @@ use borrow.Author.Tests.{ltb-true, ltb-false, eq-eqb, ne-eqb}
 use lib.Dec.{eqb, ltb}
 use lib.ListN.{length, getD, set, getElem?, drop, length-set}
 use lib.Seq.{drop-drop, getD-set-other}
-use Rattle.image.specs.Syntax.{Name, Terms, Program}
-use Rattle.image.specs.Bytes.{putSpan, put32}
-use Rattle.image.specs.Encode.{putHead, putTerms, putConditions}
-use Rattle.image.specs.Limits.{Mode, ValidTerms}
-use Rattle.image.specs.Parts.{TermsAt, Sentence, putSentence, ownSentences}
-use Rattle.restrictions.specs.Entries.{Held}
+use Rattle.program.specs.Syntax.{Name, Terms, Program}
+use Rattle.program.specs.Bytes.{putSpan, put32}
+use Rattle.program.specs.Encode.{putHead, putTerms, putConditions}
+use Rattle.program.specs.Limits.{Mode, ValidTerms}
+use Rattle.image.specs.Parts.{TermsAt, putSentence}
+use Rattle.program.specs.Sentences.{Sentence, ownSentences}
+use Rattle.told.specs.Numbered.{Held, sitesOf}
 use Rattle.index.specs.declared.Plan.{Plan}
 use Rattle.index.specs.Layout.{witnesses}
 use Rattle.index.specs.First.{First}
 use Rattle.index.specs.Tables.{SentenceEntry}
-use Rattle.index.specs.Calls.{isListed}
+use Rattle.told.specs.Calls.{isListed}
 use Rattle.index.proofs.First.{element-below, element-same, first-any}
-use Rattle.cleaning.specs.Asked.{restricts, isMet, meets}
-use Rattle.cleaning.specs.Indexed.{sitesOf}
+use Rattle.told.specs.Asked.{restricts, isMet, meets}
 use Rattle.cleaning.specs.Walks.{OnList, NoneMet, WitnessOf, Witnessed, witnessFrom, StillMet, OneEntry}
 use Rattle.cleaning.proofs.Meeting.{meets-listed, meets-less}
 

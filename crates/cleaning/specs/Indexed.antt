@@ -6,18 +6,13 @@ use mathlib.Core.List.{List}
 use mathlib.Core.Option.{some}
 use lib.Dec.{ltb}
 use lib.ListN.{length, getD, getElem?}
-use Rattle.image.specs.Syntax.{Function, Program}
-use Rattle.image.specs.Parts.{ownSentences}
-use Rattle.restrictions.specs.Entries.{Held}
-use Rattle.restrictions.specs.Numbered.{heldSites}
+use Rattle.program.specs.Syntax.{Function, Program}
+use Rattle.program.specs.Sentences.{ownSentences}
+use Rattle.told.specs.Numbered.{sitesOf}
 use Rattle.index.specs.declared.Plan.{Plan}
 use Rattle.index.specs.Layout.{heads, lines, marks, calls, links, room}
 use Rattle.index.specs.Tables.{FunctionsIn, SentencesIn, SitesAt}
 use Rattle.index.specs.Links.{Headed, Chained, Classed}
-
--- The call sites of a program with the numbers of their sentences.
-abbrev pub sitesOf : Program → List Held
-sitesOf w = heldSites 0 (ownSentences (w .functions))
 
 -- The columns of m hold the functions, the sentences, the sites and the lists of the sites of w, whose body is b.
 pub record Indexed (b : List ℕ) (w : Program) (m : List ℕ) (p : Plan) : Type 0 where

@@ -1,14 +1,5 @@
-pub mod Root
-pub mod Cleaning
-pub mod Text
-pub mod CleanReport
-pub mod Kept
-pub mod KeptSites
-pub mod Asked
-pub mod History
 pub mod Indexed
 pub mod Walks
 pub mod RoundDone
-pub mod ToldReport
 pub mod Prepared
 pub mod Room

@@ -4,13 +4,15 @@ use mathlib.Core.Path.{_≡_}
 use mathlib.Core.List.{List}
 use mathlib.Core.Option.{some}
 use lib.ListN.{length, getD, getElem?, drop}
-use Rattle.image.specs.Syntax.{Function, Program}
-use Rattle.image.specs.Parts.{ownSentences, FunctionsAt}
+use Rattle.program.specs.Syntax.{Function, Program}
+use Rattle.program.specs.Sentences.{ownSentences}
+use Rattle.image.specs.Parts.{FunctionsAt}
 use Rattle.index.specs.declared.Plan.{Plan}
 use Rattle.index.specs.Layout.{heads, lines, witnesses, calls, links, room}
 use Rattle.index.specs.Tables.{FunctionsIn, SentencesIn, SitesAt}
 use Rattle.index.specs.Links.{entryNext, Headed, Chained, Classed}
-use Rattle.cleaning.specs.Indexed.{sitesOf, Indexed, fellOf}
+use Rattle.told.specs.Numbered.{sitesOf}
+use Rattle.cleaning.specs.Indexed.{Indexed, fellOf}
 
 -- The functions of w stand from `from` to the end of the body b of an image.
 pub record BodyOf (b : List ℕ) (from : ℕ) (w : Program) : Type 0 where

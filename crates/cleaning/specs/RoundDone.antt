@@ -6,16 +6,17 @@ use mathlib.Core.List.{List}
 use mathlib.Core.Option.{some}
 use lib.Dec.{eqb}
 use lib.ListN.{length, getD, getElem?}
-use Rattle.image.specs.Syntax.{Terms, Function, Program}
-use Rattle.image.specs.Parts.{Sentence}
-use Rattle.restrictions.specs.Lists.{any}
+use Rattle.program.specs.Syntax.{Terms, Function, Program}
+use Rattle.program.specs.Sentences.{Sentence}
+use Rattle.meaning.specs.Lists.{any}
 use Rattle.index.specs.declared.Plan.{Plan}
 use Rattle.index.specs.Layout.{lines, witnesses}
-use Rattle.index.specs.Tables.{sentencesBefore, Apart}
-use Rattle.cleaning.specs.Root.{rootPlace}
-use Rattle.cleaning.specs.Asked.{meets}
-use Rattle.cleaning.specs.History.{isThere, afterAll, someAccepted, rejects, RoundTold, someNumber, someFell, Told}
-use Rattle.cleaning.specs.Indexed.{sitesOf, Indexed, fellOf, OnlyRounds}
+use Rattle.told.specs.Numbered.{sentencesBefore, sitesOf}
+use Rattle.index.specs.Tables.{Apart}
+use Rattle.meaning.specs.Root.{rootPlace}
+use Rattle.told.specs.Asked.{meets}
+use Rattle.told.specs.History.{isThere, afterAll, someAccepted, rejects, RoundTold, someNumber, someFell, Told}
+use Rattle.cleaning.specs.Indexed.{Indexed, fellOf, OnlyRounds}
 use Rattle.cleaning.specs.Walks.{Owns, OneEntry, WitnessOf, Witnessed}
 
 -- Which patterns the round rejects of the g-th function x, and whether one of its sentences is not rejected.

@@ -6,19 +6,20 @@ use mathlib.Core.List.{List}
 use mathlib.Core.Option.{some}
 use lib.Dec.{eqb}
 use lib.ListN.{length, getD, getElem?, drop}
-use Rattle.image.specs.Syntax.{Name, Terms, Function, Program}
-use Rattle.image.specs.Limits.{Mode}
-use Rattle.image.specs.Parts.{TermsAt, Sentence, ownSentences}
-use Rattle.restrictions.specs.Lists.{any}
-use Rattle.restrictions.specs.Entries.{Held, entrySentence}
+use Rattle.program.specs.Syntax.{Name, Terms, Function, Program}
+use Rattle.program.specs.Limits.{Mode}
+use Rattle.image.specs.Parts.{TermsAt}
+use Rattle.program.specs.Sentences.{Sentence, ownSentences}
+use Rattle.meaning.specs.Lists.{any}
+use Rattle.told.specs.Numbered.{Held, sentencesBefore, sitesOf}
+use Rattle.restrictions.specs.Entries.{entrySentence}
 use Rattle.index.specs.declared.Plan.{Plan}
 use Rattle.index.specs.Layout.{witnesses, calls, links, room}
 use Rattle.index.specs.First.{First}
-use Rattle.index.specs.Tables.{sentencesBefore}
-use Rattle.index.specs.Calls.{isListed}
+use Rattle.told.specs.Calls.{isListed}
 use Rattle.index.specs.Links.{Chain}
-use Rattle.cleaning.specs.Asked.{isMet, meets}
-use Rattle.cleaning.specs.Indexed.{sitesOf, Indexed}
+use Rattle.told.specs.Asked.{isMet, meets}
+use Rattle.cleaning.specs.Indexed.{Indexed}
 
 -- The entries say in which sentence each site is, and which comes next in its list.
 pub record Walkable (kind : Bool) (f : Name) (sites : List Held) (m : List ℕ) (p : Plan) : Type 0 where

@@ -11,8 +11,8 @@ use index::table::head_site;
 use restrictions::program_sites;
 ghost use mathlib.Core.Path.{_≡_};
 ghost use lib.ListN.{length};
-ghost use Rattle.image.specs.Syntax.{Program};
-ghost use Rattle.image.specs.Parts.{ownSentences};
+ghost use Rattle.program.specs.Syntax.{Program};
+ghost use Rattle.program.specs.Sentences.{ownSentences};
 ghost use Rattle.cleaning.specs.Prepared.{BodyOf, SomeProgram, ProgramListed, SomeListing, Chains, SomeChains, ListsKept, ClassesWritten, ProgramLinked};
 
 // Lists the functions, the sentences and the sites of the program whose functions stand from `from` on; how many sites.

@@ -4,11 +4,11 @@ ghost use mathlib.Core.List.{List, map};
 ghost use mathlib.Core.Option.{Option·getD};
 ghost use Prim.Native.Nat.{zero};
 ghost use lib.ListN.{drop};
-ghost use Rattle.image.specs.Syntax.{Function};
-ghost use Rattle.image.specs.Encode.{visibilityByte};
+ghost use Rattle.program.specs.Syntax.{Function};
+ghost use Rattle.program.specs.Encode.{visibilityByte};
 ghost use Rattle.image.specs.Parts.{FunctionAt};
 ghost use Rattle.index.specs.Tabled.{Tabled, SomeTabled};
-ghost use Rattle.cleaning.specs.Root.{entryPlace};
+ghost use Rattle.meaning.specs.Root.{entryPlace};
 
 // The visibility of the function that stands at p, as its byte.
 fn visibility_at(b: &[u8], p: usize) -> u8

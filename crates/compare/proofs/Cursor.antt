@@ -8,13 +8,13 @@ use lib.Dec.{eqb, leb}
 use lib.ListN.{length, getD, drop, length-append, length-drop, List·getD-append}
 use lib.Seq.{drop-cons, drop-at}
 use borrow.Author.Tests.{eqb-true, eqb-false, leb-true, leb-false, eq-eqb, ne-eqb}
-use Rattle.image.specs.Limits.{Mode}
+use Rattle.program.specs.Limits.{Mode}
 use Rattle.image.specs.Parts.{Passes, TermsAt}
-use Rattle.image.proofs.Lengths.{terms-length}
-use Rattle.symbols.specs.Names.{eqBytes}
+use Rattle.program.proofs.Lengths.{terms-length}
+use Rattle.patterns.specs.Names.{eqBytes}
 use Rattle.symbols.proofs.Parts.{part-rest}
 use Rattle.overlap.proofs.Readings.{part, part-length, part-part}
-use Rattle.cleaning.specs.Text.{Text, formatTerms}
+use Rattle.meaning.specs.Text.{Text, formatTerms}
 use Rattle.compare.specs.Letters.{tokenLength, letters, TokenIn}
 use Rattle.compare.proofs.Letters.{letters-short, token-long}
 use Rattle.compare.proofs.Walk.{Walk, walk-long, walk-all}

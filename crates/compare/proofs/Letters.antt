@@ -9,14 +9,14 @@ use lib.Dec.{eqb, ltb}
 use lib.ListN.{length, getD, drop, length-append, length-drop, List·getD-append}
 use lib.Seq.{length-take-le, getD-append-add, getD-take, getD-drop}
 use borrow.Author.Tests.{eqb-true, eqb-false, ltb-true, ltb-false, eq-eqb, ne-eqb, lt-ltb, le-ltb}
-use Rattle.image.specs.Syntax.{character}
-use Rattle.image.specs.Bytes.{get32}
-use Rattle.symbols.specs.Ascii.{ascii}
-use Rattle.cleaning.specs.Text.{Text, utf8, quote, formatSymbol}
-use Rattle.report.specs.FormatTerm.{gapBefore, kindLetter}
+use Rattle.program.specs.Syntax.{character}
+use Rattle.program.specs.Bytes.{get32}
+use Rattle.patterns.specs.Ascii.{ascii}
+use Rattle.meaning.specs.Text.{Text, utf8, quote, formatSymbol}
+use Rattle.text.specs.FormatTerm.{gapBefore, kindLetter}
 use Rattle.compare.specs.Letters.{tokenLength, tokenName, tokenText, tokenGap, letters, TokenIn}
-use Rattle.report.proofs.Codes.{utf8-one, utf8-two, utf8-three, utf8-four}
-use Rattle.report.proofs.Leaves.{utf8-length, quote-length}
+use Rattle.text.proofs.Codes.{utf8-one, utf8-two, utf8-three, utf8-four}
+use Rattle.text.proofs.Leaves.{utf8-length, quote-length}
 
 -- The same place of the same list.
 pub place : {l m : List ℕ} (n k : ℕ) → l ≡ m → k ≡ n → getD l n 0 ≡ getD m k 0

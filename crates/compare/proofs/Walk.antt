@@ -6,21 +6,21 @@ use mathlib.Core.Path.{_≡_, refl, sym, ap, subst, _∙_}
 use mathlib.Core.List.{List, [], _∷_, _++_, append-nil, append-assoc, flatten}
 use lib.ListN.{length, getD, drop, length-append, length-drop}
 use lib.Seq.{take-append-seam, drop-append-seam, getD-drop}
-use Rattle.image.specs.Syntax.{Name, Span, Symbol, character, identifier, number, Kind, s-kind, t-kind, e-kind, Terms, nil, symbol, variable, bracket, call, block}
-use Rattle.image.specs.Bytes.{put32, putSpan, putName}
-use Rattle.image.specs.Encode.{putSymbol, kindMark, putTerms}
-use Rattle.image.specs.Limits.{Mode, ValidSymbol, ValidTerms}
+use Rattle.program.specs.Syntax.{Name, Span, Symbol, character, identifier, number, Kind, s-kind, t-kind, e-kind, Terms, nil, symbol, variable, bracket, call, block}
+use Rattle.program.specs.Bytes.{put32, putSpan, putName}
+use Rattle.program.specs.Encode.{putSymbol, kindMark, putTerms}
+use Rattle.program.specs.Limits.{Mode, ValidSymbol, ValidTerms}
 use Rattle.image.specs.Parts.{TermsAt}
-use Rattle.image.proofs.Lengths.{span-length, name-length, terms-length}
+use Rattle.program.proofs.Lengths.{span-length, name-length, terms-length}
 use Rattle.image.proofs.Readings.{fewer-around}
-use Rattle.symbols.specs.Ascii.{ascii}
-use Rattle.cleaning.specs.Text.{Text, formatSymbol, formatKind, gap, formatTerms}
-use Rattle.report.specs.FormatTerm.{gapBefore, kindLetter}
-use Rattle.report.specs.Parts.{VariableAt}
+use Rattle.patterns.specs.Ascii.{ascii}
+use Rattle.meaning.specs.Text.{Text, formatSymbol, formatKind, gap, formatTerms}
+use Rattle.text.specs.FormatTerm.{gapBefore, kindLetter}
+use Rattle.text.specs.Parts.{VariableAt}
 use Rattle.compare.specs.Letters.{tokenLength, tokenName, tokenText, tokenGap, letters, TokenIn}
-use Rattle.report.proofs.Leaves.{CodeIn, code-in, variable-text}
+use Rattle.text.proofs.Leaves.{CodeIn, code-in, variable-text}
 use Rattle.compare.proofs.Letters.{length-code, length-name, length-begin, length-close, text-code, text-name, text-variable, text-begin, text-close, gap-begin, gap-not-begin, letters-are, token-long, character-length}
-use Rattle.report.proofs.Terms.{gap-in}
+use Rattle.text.proofs.Formatting.{gap-in}
 
 -- A token with the text w at the start of s, and k behind it.
 pub record Piece (s k : List ℕ) (w : Text) : Type 0 where

@@ -5,11 +5,11 @@ use mathlib.Core.Bool.{cond}
 use mathlib.Core.List.{List, [], _∷_, _++_}
 use lib.Dec.{eqb, ltb}
 use lib.ListN.{length, getD, take, drop}
-use Rattle.image.specs.Syntax.{character}
-use Rattle.image.specs.Bytes.{get32}
-use Rattle.symbols.specs.Ascii.{ascii}
-use Rattle.cleaning.specs.Text.{Text, formatSymbol}
-use Rattle.report.specs.FormatTerm.{gapBefore, kindLetter}
+use Rattle.program.specs.Syntax.{character}
+use Rattle.program.specs.Bytes.{get32}
+use Rattle.patterns.specs.Ascii.{ascii}
+use Rattle.meaning.specs.Text.{Text, formatSymbol}
+use Rattle.text.specs.FormatTerm.{gapBefore, kindLetter}
 
 -- How many bytes the token has: "1 character (32-bit code); 2 identifier, 3 number; 4 `s.`, 5 `t.`, 6 `e.` variable (a name each); 7 bracket", each with a span, and "Close is 15."
 unfoldable pub tokenLength : List ℕ → ℕ

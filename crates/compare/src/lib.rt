@@ -2,24 +2,24 @@
 // identifier may be spelled as a variable is, so tokens are not compared.
 use image::number::read32;
 use image::part::terms_len;
-use report::emit::lead_of_four;
-use report::emit::lead_of_three;
-use report::emit::lead_of_two;
-use report::emit::trail;
-use report::text::kind_letter;
-use report::text::quote_of;
+use text::emit::lead_of_four;
+use text::emit::lead_of_three;
+use text::emit::lead_of_two;
+use text::emit::trail;
+use text::terms::kind_letter;
+use text::terms::quote_of;
 ghost use mathlib.Core.Path.{_≡_};
 ghost use mathlib.Core.Bool.{cond};
 ghost use mathlib.Core.List.{_∷_};
 ghost use Prim.Native.Nat.{_+_, _<_, _≤_};
 ghost use lib.Dec.{eqb};
 ghost use lib.ListN.{length, getD};
-ghost use Rattle.image.specs.Syntax.{character};
-ghost use Rattle.image.specs.Limits.{Mode};
+ghost use Rattle.program.specs.Syntax.{character};
+ghost use Rattle.program.specs.Limits.{Mode};
 ghost use Rattle.image.specs.Parts.{TermsAt};
-ghost use Rattle.symbols.specs.Names.{eqBytes};
-ghost use Rattle.cleaning.specs.Text.{utf8, formatSymbol, formatTerms};
-ghost use Rattle.report.specs.FormatTerm.{kindLetter};
+ghost use Rattle.patterns.specs.Names.{eqBytes};
+ghost use Rattle.meaning.specs.Text.{utf8, formatSymbol, formatTerms};
+ghost use Rattle.text.specs.FormatTerm.{kindLetter};
 ghost use Rattle.compare.specs.Letters.{tokenLength, tokenName, tokenText, letters, TokenIn};
 
 // How many bytes a code has in UTF-8.

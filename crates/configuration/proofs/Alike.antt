@@ -5,10 +5,10 @@ use mathlib.Core.Path.{_≡_, sym, ap, _∙_}
 use mathlib.Core.Bool.{true}
 use mathlib.Core.List.{List, [], _∷_}
 use lib.ListN.{length, getD, length-drop}
-use Rattle.image.specs.Syntax.{Name}
-use Rattle.image.specs.Limits.{Mode}
+use Rattle.program.specs.Syntax.{Name}
+use Rattle.program.specs.Limits.{Mode}
 use Rattle.image.specs.Parts.{TermsAt}
-use Rattle.symbols.specs.Names.{caseless}
+use Rattle.patterns.specs.Names.{caseless}
 use Rattle.symbols.proofs.Parts.{part-rest}
 use Rattle.configuration.specs.Lockstep.{firstName, Pair, firstBoth, alike, namesMet, WalkedTo}
 use Rattle.configuration.proofs.Tokens.{pattern-room, names-none, variable-here}

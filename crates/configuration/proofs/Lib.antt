@@ -1,6 +1,3 @@
-pub mod Equality
-pub mod Configuration
-pub mod Vocabulary
 pub mod Tokens
 pub mod Spans
 pub mod Numbering
@@ -8,4 +5,3 @@ pub mod Scan
 pub mod Closes
 pub mod Lockstep
 pub mod Alike
-pub mod Examples

@@ -8,16 +8,16 @@ use lib.Dec.{eqb}
 use borrow.Author.Tests.{eq-eqb, eqb-true}
 use lib.ListN.{length, getD, drop, length-drop}
 use lib.Seq.{drop-drop}
-use Rattle.image.specs.Syntax.{Name, Terms, nil, symbol, variable, bracket, call, block}
-use Rattle.image.specs.Encode.{putTerms}
-use Rattle.image.specs.Limits.{Mode, ValidTerms}
+use Rattle.program.specs.Syntax.{Name, Terms, nil, symbol, variable, bracket, call, block}
+use Rattle.program.specs.Encode.{putTerms}
+use Rattle.program.specs.Limits.{Mode, ValidTerms}
 use Rattle.image.specs.Parts.{Passes, TermsAt}
-use Rattle.image.proofs.Lengths.{terms-length}
+use Rattle.program.proofs.Lengths.{terms-length}
 use Rattle.image.proofs.Readings.{fewer-around}
-use Rattle.symbols.specs.Names.{caseless, eqBytes}
-use Rattle.symbols.specs.Symbols.{eqSymbol}
-use Rattle.configuration.specs.Equality.{eqSpan, eqKind, eqTerms}
-use Rattle.configuration.specs.Configuration.{position, seenWith, namesAfter, canonicalFrom, canonicalConfiguration, sameConfiguration}
+use Rattle.patterns.specs.Names.{caseless, eqBytes}
+use Rattle.patterns.specs.Symbols.{eqSymbol}
+use Rattle.patterns.specs.Equality.{eqSpan, eqKind, eqTerms}
+use Rattle.patterns.specs.Configuration.{position, seenWith, namesAfter, canonicalFrom, canonicalConfiguration, sameConfiguration}
 use Rattle.configuration.specs.Lockstep.{opened, sameToken, firstName, Pair, pairs, alike, Step, StepAt, Path, namesMet, closesAfter, Walked, WalkedTo}
 use Rattle.configuration.proofs.Tokens.{mark, mark-is, symbol-low, kind-range, tokens-differ, opened-less, names-together}
 use Rattle.configuration.proofs.Closes.{closes-open, closes-close, closes-same}

@@ -7,10 +7,10 @@ use mathlib.Core.List.{List, [], _∷_, _++_}
 use lib.Dec.{eqb}
 use borrow.Author.Tests.{ne-eqb, eq-eqb, eqb-true}
 use lib.ListN.{length}
-use Rattle.image.specs.Syntax.{Name}
-use Rattle.symbols.specs.Names.{eqBytes}
-use Rattle.symbols.proofs.Names.{eqBytes-true, eqBytes-refl, eqBytes-false, eqBytes-sym}
-use Rattle.configuration.specs.Configuration.{position, seenWith}
+use Rattle.program.specs.Syntax.{Name}
+use Rattle.patterns.specs.Names.{eqBytes}
+use Rattle.patterns.proofs.Names.{eqBytes-true, eqBytes-refl, eqBytes-false, eqBytes-sym}
+use Rattle.patterns.specs.Configuration.{position, seenWith}
 use Rattle.configuration.specs.Lockstep.{Pair, pair, firstBoth}
 
 -- Where a name stands among those seen.

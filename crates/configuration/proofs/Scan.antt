@@ -5,8 +5,8 @@ use mathlib.Core.Path.{_≡_, refl, sym, ap, subst, _∙_}
 use mathlib.Core.Bool.{Bool, true, false, cond}
 use mathlib.Core.List.{List, [], _∷_, _++_}
 use lib.ListN.{length, take, drop, length-drop}
-use Rattle.image.specs.Syntax.{Name}
-use Rattle.image.specs.Limits.{Mode}
+use Rattle.program.specs.Syntax.{Name}
+use Rattle.program.specs.Limits.{Mode}
 use Rattle.image.specs.Parts.{Passes, TermsAt}
 use Rattle.symbols.proofs.Parts.{part-rest}
 use Rattle.configuration.specs.Lockstep.{opened, firstName, Pair, pairs, meets, firstBoth, Step, StepAt, Path, namesMet, Walked}

@@ -7,15 +7,15 @@ use mathlib.Core.List.{List}
 use lib.Dec.{eqb}
 use borrow.Author.Tests.{ne-eqb, eq-eqb, eqb-true}
 use lib.ListN.{length, getD, take, drop}
-use Rattle.image.specs.Syntax.{Symbol}
-use Rattle.image.specs.Bytes.{put32, putSpan, get32, getSpan}
+use Rattle.program.specs.Syntax.{Symbol}
+use Rattle.program.specs.Bytes.{put32, putSpan, get32, getSpan}
 use Rattle.image.specs.Parts.{NameAt}
-use Rattle.image.proofs.Numbers.{get32-put32}
-use Rattle.symbols.specs.Names.{eqBytes}
-use Rattle.symbols.specs.Symbols.{key, eqSymbol, sameSymbol}
+use Rattle.program.proofs.Numbers.{get32-put32}
+use Rattle.patterns.specs.Names.{eqBytes}
+use Rattle.patterns.specs.Symbols.{key, eqSymbol, sameSymbol}
 use Rattle.symbols.specs.Parts.{SymbolAt}
 use Rattle.symbols.proofs.Parts.{part-rest, CodeAt, IdentifierAt, NumberAt, code-at, identifier-at, number-at, codes-compared}
-use Rattle.configuration.specs.Equality.{eqSpan}
+use Rattle.patterns.specs.Equality.{eqSpan}
 use Rattle.configuration.specs.Lockstep.{SpanAt}
 
 module _ {s : List ℕ} (x : SpanAt s) where

@@ -6,17 +6,17 @@ use mathlib.Core.Logic.{_⊎_, inl, inr}
 use mathlib.Core.Bool.{Bool, true, false, _&&_}
 use mathlib.Core.List.{List, [], _∷_}
 use lib.ListN.{length, getD, take, drop}
-use Rattle.image.specs.Syntax.{Name, Span, Symbol, character, identifier, number, Kind, s-kind, t-kind, e-kind, Terms, nil, symbol, variable, bracket, call, block}
-use Rattle.image.specs.Bytes.{put32, putSpan, putName}
-use Rattle.image.specs.Encode.{putSymbol, kindMark, putTerms}
-use Rattle.image.specs.Limits.{Mode, ValidSpan, ValidTerms}
+use Rattle.program.specs.Syntax.{Name, Span, Symbol, character, identifier, number, Kind, s-kind, t-kind, e-kind, Terms, nil, symbol, variable, bracket, call, block}
+use Rattle.program.specs.Bytes.{put32, putSpan, putName}
+use Rattle.program.specs.Encode.{putSymbol, kindMark, putTerms}
+use Rattle.program.specs.Limits.{Mode, ValidSpan, ValidTerms}
 use Rattle.image.specs.Parts.{Passes, NameAt, TermsAt, tail}
-use Rattle.image.proofs.Lengths.{span-length, name-length, symbol-length, terms-length}
-use Rattle.symbols.specs.Names.{caseless, sameName}
-use Rattle.symbols.specs.Symbols.{eqSymbol}
+use Rattle.program.proofs.Lengths.{span-length, name-length, symbol-length, terms-length}
+use Rattle.patterns.specs.Names.{caseless, sameName}
+use Rattle.patterns.specs.Symbols.{eqSymbol}
 use Rattle.symbols.specs.Parts.{SymbolAt}
 use Rattle.symbols.proofs.Parts.{part-rest}
-use Rattle.configuration.specs.Equality.{eqSpan, eqKind}
+use Rattle.patterns.specs.Equality.{eqSpan, eqKind}
 use Rattle.configuration.specs.Lockstep.{opened, sameToken, firstName, meets, SpanAt}
 
 -- The mark of a symbol, and of what terms begin with.

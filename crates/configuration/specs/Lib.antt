@@ -1,3 +1,1 @@
-pub mod Equality
-pub mod Configuration
 pub mod Lockstep

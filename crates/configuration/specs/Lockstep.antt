@@ -5,14 +5,14 @@ use mathlib.Core.Bool.{Bool, true, false, _&&_, cond}
 use mathlib.Core.List.{List, [], _∷_, _++_}
 use lib.Dec.{eqb}
 use lib.ListN.{length, getD, drop}
-use Rattle.image.specs.Syntax.{Name, Span, Terms, nil, symbol, variable, bracket, call, block}
-use Rattle.image.specs.Bytes.{putSpan}
-use Rattle.image.specs.Encode.{putTerms}
-use Rattle.image.specs.Limits.{Mode, ValidSpan}
+use Rattle.program.specs.Syntax.{Name, Span, Terms, nil, symbol, variable, bracket, call, block}
+use Rattle.program.specs.Bytes.{putSpan}
+use Rattle.program.specs.Encode.{putTerms}
+use Rattle.program.specs.Limits.{Mode, ValidSpan}
 use Rattle.image.specs.Parts.{Passes, TermsAt}
-use Rattle.symbols.specs.Names.{caseless, eqBytes}
-use Rattle.symbols.specs.Symbols.{eqSymbol}
-use Rattle.configuration.specs.Equality.{eqSpan, eqKind}
+use Rattle.patterns.specs.Names.{caseless, eqBytes}
+use Rattle.patterns.specs.Symbols.{eqSymbol}
+use Rattle.patterns.specs.Equality.{eqSpan, eqKind}
 
 -- What stands behind the first token.
 unfoldable pub opened : Terms → List ℕ → List ℕ

@@ -7,13 +7,13 @@ use symbols::same_name;
 ghost use mathlib.Core.Path.{_≡_};
 ghost use Prim.Native.Nat.{_<_, _≤_};
 ghost use lib.ListN.{length, getD};
-ghost use Rattle.image.specs.Limits.{Mode};
+ghost use Rattle.program.specs.Limits.{Mode};
 ghost use Rattle.image.specs.Parts.{Passes, TermsAt};
-ghost use Rattle.symbols.specs.Names.{caseless};
-ghost use Rattle.symbols.specs.Symbols.{eqSymbol};
+ghost use Rattle.patterns.specs.Names.{caseless};
+ghost use Rattle.patterns.specs.Symbols.{eqSymbol};
 ghost use Rattle.symbols.specs.Parts.{SymbolAt};
-ghost use Rattle.configuration.specs.Equality.{eqSpan};
-ghost use Rattle.configuration.specs.Configuration.{sameConfiguration};
+ghost use Rattle.patterns.specs.Equality.{eqSpan};
+ghost use Rattle.patterns.specs.Configuration.{sameConfiguration};
 ghost use Rattle.configuration.specs.Lockstep.{opened, sameToken, firstName, meets, firstBoth, alike, namesMet, closesAfter, Walked, WalkedTo, SpanAt};
 
 // The length of the first token of the terms at the start of s.

@@ -2,7 +2,7 @@
 mod text;
 
 ghost use Rattle.io.specs.Counts.{Counts};
-use cleaner::CleanAnswer;
+use answers::CleanAnswer;
 use libc::STDOUT_FILENO;
 
 fn wide(x: u8) -> u64 {

@@ -5,15 +5,14 @@ use mathlib.Core.Path.{_≡_, refl, sym, ap, subst, _∙_}
 use mathlib.Core.List.{List, [], _∷_, _++_, append-assoc}
 use lib.ListN.{length, getD, take, drop, length-append}
 use lib.Seq.{drop-append-seam}
-use Rattle.image.specs.Syntax.{Name, Span, Declaration, Function, Program}
-use Rattle.image.specs.Bytes.{put32, putSpan, putName, get16, get32}
-use Rattle.image.specs.Encode.{putNames, putDeclarations, putFunctions, putBody, ownSentenceCount, encode}
-use Rattle.image.specs.Limits.{Valid, ValidFunctions}
-use Rattle.image.specs.Decode.{Answer, bodyLength, toFunctions, functionField, sentenceField, decode}
+use Rattle.program.specs.Syntax.{Name, Span, Declaration, Function, Program}
+use Rattle.program.specs.Bytes.{put32, putSpan, putName, get16, get32, Bytes}
+use Rattle.program.specs.Encode.{putNames, putDeclarations, putFunctions, putBody, ownSentenceCount, encode}
+use Rattle.program.specs.Limits.{Valid, ValidFunctions}
+use Rattle.program.specs.Decode.{Answer, bodyLength, toFunctions, functionField, sentenceField, decode}
 use Rattle.image.specs.Parts.{Accepted, FunctionsAt}
-use Rattle.image.proofs.Numbers.{Bytes}
-use Rattle.image.proofs.Lengths.{body-length, encode-length}
-use Rattle.image.proofs.RoundTrip.{encode-decode, body-len, to-functions, function-field, sentence-field, body-is}
+use Rattle.program.proofs.Lengths.{body-length, encode-length}
+use Rattle.program.proofs.RoundTrip.{encode-decode, body-len, to-functions, function-field, sentence-field, body-is}
 
 -- What s ends with: k.
 pub record Ends (s k : List ℕ) : Type 0 where

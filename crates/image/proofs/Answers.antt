@@ -8,15 +8,15 @@ use lib.ListN.{length, getD, take, drop}
 use lib.Seq.{length-take-le}
 use lib.Dec.{ltb, leb, eqb}
 use borrow.Author.Tests.{lt-ltb, le-ltb, le-leb, lt-leb, eq-eqb, ne-eqb}
-use Rattle.image.specs.Syntax.{Program}
-use Rattle.image.specs.Bytes.{get16, get32}
-use Rattle.image.specs.Encode.{putFunctions, ownSentenceCount}
-use Rattle.image.specs.Limits.{pick}
-use Rattle.image.specs.Automaton.{Stack, Read, run}
-use Rattle.image.specs.Decode.{Answer, bodyLength, toBody, toFunctions, functionField, sentenceField, sized, pointed, agrees, settled, decodeSized, decode}
+use Rattle.program.specs.Syntax.{Program}
+use Rattle.program.specs.Bytes.{get16, get32}
+use Rattle.program.specs.Encode.{putFunctions, ownSentenceCount}
+use Rattle.program.specs.Limits.{pick}
+use Rattle.program.specs.Automaton.{Stack, Read, run}
+use Rattle.program.specs.Decode.{Answer, bodyLength, toBody, toFunctions, functionField, sentenceField, sized, pointed, agrees, settled, decodeSized, decode}
 use Rattle.image.specs.Steps.{refusal}
 use Rattle.image.specs.Tally.{counts, tallyOf, checkedOf}
-use Rattle.image.specs.declared.reader.Refusal.{Refusal}
+use Rattle.program.specs.declared.Refusal.{Refusal}
 use Rattle.image.specs.declared.reader.Counts.{Counts}
 use Rattle.image.specs.declared.reader.Tally.{Tally}
 use Rattle.image.specs.declared.reader.Checked.{Checked}

@@ -5,13 +5,14 @@ use mathlib.Core.Path.{_≡_, refl, sym, ap, subst, _∙_}
 use mathlib.Core.List.{List, [], _∷_, _++_}
 use lib.ListN.{length, getD, take, drop, length-drop, length-append, drop-of-length-le}
 use lib.Seq.{getD-drop, drop-drop, drop-append-seam, drop-nil}
-use Rattle.image.specs.Syntax.{Sentences, Function}
-use Rattle.image.specs.Bytes.{put32, putSpan, putName}
-use Rattle.image.specs.Encode.{putHead, putTerms, putConditions, putSentences, visibilityByte, putFunction, putFunctions}
+use Rattle.program.specs.Syntax.{Sentences, Function}
+use Rattle.program.specs.Bytes.{put32, putSpan, putName}
+use Rattle.program.specs.Encode.{putHead, putTerms, putConditions, putSentences, visibilityByte, putFunction, putFunctions}
 use Rattle.image.specs.Skip.{pass}
-use Rattle.image.specs.Parts.{Sentence, putSentence, sentenceList, ownSentences, FunctionsAt, Stands, FoundIn}
+use Rattle.program.specs.Sentences.{Sentence, sentenceList, ownSentences}
+use Rattle.image.specs.Parts.{putSentence, FunctionsAt, Stands, FoundIn}
 use Rattle.image.proofs.Readings.{sentence-passed}
-use Rattle.image.proofs.Lengths.{head-length}
+use Rattle.program.proofs.Lengths.{head-length}
 
 -- What stands at a place of the walk: functions, or a function's sentences and then functions.
 pub data Place (s : List ℕ) (xs : List Sentence) : Type 0 where

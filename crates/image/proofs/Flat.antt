@@ -8,12 +8,12 @@ use mathlib.Core.List.{List, [], _∷_}
 use lib.ListN.{length, getD, take, drop}
 use lib.Seq.{drop-cons}
 use lib.Dec.{ltb, leb}
-use Rattle.image.specs.Bytes.{get32}
-use Rattle.image.specs.Limits.{pick, Mode, scalar}
-use Rattle.image.specs.Automaton.{Stack, Values, Scan, scan, scanned, Turn, wrong, named, turnNames, turn, Read, made, follow, run}
+use Rattle.program.specs.Bytes.{get32}
+use Rattle.program.specs.Limits.{pick, Mode, scalar}
+use Rattle.program.specs.Automaton.{Stack, Values, Scan, scan, scanned, Turn, wrong, named, turnNames, turn, Read, made, follow, run}
 use Rattle.image.specs.Steps.{refusalOf, spanRefusal, frame, push, kindOn, frameOn, pushed, Goes, termsKind, TermsKind}
 use Rattle.image.specs.Tally.{unpacked, stackOf, tallyIn, Alike, Ends, Stops}
-use Rattle.image.specs.declared.reader.Refusal.{Refusal}
+use Rattle.program.specs.declared.Refusal.{Refusal}
 use Rattle.image.specs.declared.reader.Push.{Push}
 use Rattle.image.specs.declared.reader.Tally.{Tally}
 use Rattle.image.specs.declared.reader.Spot.{Spot}

@@ -7,8 +7,8 @@ use mathlib.Core.List.{List, [], _∷_}
 use lib.ListN.{length, getD}
 use lib.Dec.{eqb}
 use borrow.Author.Tests.{eq-eqb, ne-eqb}
-use Rattle.image.specs.Limits.{pick, Mode}
-use Rattle.image.specs.Automaton.{Stack}
+use Rattle.program.specs.Limits.{pick, Mode}
+use Rattle.program.specs.Automaton.{Stack}
 use Rattle.image.specs.Steps.{refusal, frame, DoesAt, Does, bottom, bottomAfter, TermsKind, kindOn, frameOn}
 use Rattle.image.specs.Tally.{counts, unpacked, topOf, TurnDoes, functionOne, sentenceOne, bottomNext, firstNext, advancedBy, tallyEnd}
 use Rattle.image.specs.declared.reader.Frame.{Frame}

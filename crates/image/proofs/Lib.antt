@@ -1,8 +1,3 @@
-pub mod Numbers
-pub mod Lengths
-pub mod Sound
-pub mod Complete
-pub mod RoundTrip
 pub mod Refusals
 pub mod Steps
 pub mod Turns
@@ -11,11 +6,7 @@ pub mod Walk
 pub mod Loop
 pub mod Flat
 pub mod Answers
-pub mod Tests
 pub mod Skip
 pub mod Readings
 pub mod Accepted
 pub mod Finding
-pub mod Examples
-pub mod Own
-pub mod Listed

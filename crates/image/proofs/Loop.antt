@@ -10,21 +10,21 @@ use lib.ListN.{length, getD, set, take, drop, length-set, drop-of-length-le}
 use lib.Seq.{drop-cons, getD-set-same, getD-set-other}
 use lib.Dec.{leb, eqb}
 use borrow.Author.Tests.{eq-eqb, ne-eqb, eqb-true, eqb-false, leb-true, leb-false}
-use Rattle.image.specs.Syntax.{Program}
-use Rattle.image.specs.Encode.{putFunctions, ownSentenceCount}
-use Rattle.image.specs.Limits.{pick, Mode}
-use Rattle.image.specs.Automaton.{Stack, Values, Turn, turn, Read, made, atEnd, follow, run}
+use Rattle.program.specs.Syntax.{Program}
+use Rattle.program.specs.Encode.{putFunctions, ownSentenceCount}
+use Rattle.program.specs.Limits.{pick, Mode}
+use Rattle.program.specs.Automaton.{Stack, Values, Turn, turn, Read, made, atEnd, follow, run}
 use Rattle.image.specs.Steps.{refusal, frame, kindOn, frameOn, frames, pushed, Refuses, Goes, DoesAt, Does, bottom, bottomAfter}
 use Rattle.image.specs.Tally.{counts, tallyOf, unpacked, stackOf, topOf, Stored, TurnDoes, functionOne, sentenceOne, bottomNext, firstNext, advancedBy, tallyEnd, tallyIn, Stops}
-use Rattle.image.specs.declared.reader.Refusal.{Refusal}
+use Rattle.program.specs.declared.Refusal.{Refusal}
 use Rattle.image.specs.declared.reader.Frame.{Frame}
 use Rattle.image.specs.declared.reader.Push.{Push}
 use Rattle.image.specs.declared.reader.Step.{Step}
 use Rattle.image.specs.declared.reader.Tally.{Tally}
 use Rattle.image.specs.declared.reader.Progress.{Progress}
 use Rattle.image.specs.declared.reader.Spot.{Spot}
-use Rattle.image.proofs.Tests.{by-test}
-use Rattle.image.proofs.Numbers.{Bytes}
+use Rattle.program.proofs.Tests.{by-test}
+use Rattle.program.specs.Bytes.{Bytes}
 use Rattle.image.proofs.Walk.{height, Fit, fit-height, fit-next, functionsAt, sentencesAt, firstAt, tally-start, tally-step}
 
 -- A frame of any kind but sentences.
@@ -307,10 +307,6 @@ module _ (b s : List ℕ) (n k at nf ns f : ℕ) (st : State b s n k at nf ns f)
       by : (j : ℕ) → (j ≡ 0 → ⊥) → tallyIn (stackOf k s j) (length b) nf ns f (atEnd (stackOf k s j)) ≡ Tally.Refused (refusal 5 (length b))
       by zero z = absurd (z refl)
       by (suc j) z = kind-end (getD s j 0 / 256) (getD s j 0 % 256) (stackOf k s j) (length b) nf ns f
-
-pub bytes-of : (s : List ℕ) → ((i : ℕ) → getD s i 0 < 256) → Bytes s
-bytes-of [] h = tt
-bytes-of (b ∷ s) h = (h 0, bytes-of s (λ i. h (suc i)))
 
 -- The frames below one that fits do too.
 other-fit : {x y : Stack} → Other x y → Fit y → Fit x

@@ -6,15 +6,16 @@ use mathlib.Core.Path.{_≡_, refl, sym, ap, subst, _∙_}
 use mathlib.Core.List.{List, [], _∷_, _++_}
 use lib.ListN.{length, getD, take, drop, length-append, length-drop}
 use lib.Seq.{take-append-seam, drop-append-seam, drop-drop, getD-drop}
-use Rattle.image.specs.Syntax.{Name, Span, Symbol, character, identifier, number, Kind, s-kind, t-kind, e-kind, Head, Terms, nil, symbol, variable, bracket, call, block, Conditions, none, condition, Sentences, empty, sentence, Function}
-use Rattle.image.specs.Bytes.{put32, putSpan, putName}
-use Rattle.image.specs.Encode.{putSymbol, kindMark, putHead, putTerms, putConditions, putSentences, visibilityByte, putFunction, putFunctions}
-use Rattle.image.specs.Limits.{Mode, NotPattern, ValidTerms, ValidConditions, ValidSentences}
-use Rattle.image.specs.Automaton.{Stack, Read, made, atEnd, follow, turn, run}
+use Rattle.program.specs.Syntax.{Name, Span, Symbol, character, identifier, number, Kind, s-kind, t-kind, e-kind, Head, Terms, nil, symbol, variable, bracket, call, block, Conditions, none, condition, Sentences, empty, sentence, Function}
+use Rattle.program.specs.Bytes.{put32, putSpan, putName}
+use Rattle.program.specs.Encode.{putSymbol, kindMark, putHead, putTerms, putConditions, putSentences, visibilityByte, putFunction, putFunctions}
+use Rattle.program.specs.Limits.{Mode, NotPattern, ValidTerms, ValidConditions, ValidSentences}
+use Rattle.program.specs.Automaton.{Stack, Read, made, atEnd, follow, turn, run}
 use Rattle.image.specs.Skip.{owed, fields, pass}
-use Rattle.image.specs.Parts.{Passes, NameAt, TermsAt, tail, Sentence, putSentence, SentenceAt, FunctionAt}
-use Rattle.image.proofs.Lengths.{span-length, code-length, name-length, symbol-length, head-length, terms-length, conditions-length, sentences-length}
-use Rattle.image.proofs.Complete.{Makes, run-terms}
+use Rattle.image.specs.Parts.{Passes, NameAt, TermsAt, tail, putSentence, SentenceAt, FunctionAt}
+use Rattle.program.specs.Sentences.{Sentence}
+use Rattle.program.proofs.Lengths.{span-length, code-length, name-length, symbol-length, head-length, terms-length, conditions-length, sentences-length}
+use Rattle.program.proofs.Complete.{Makes, run-terms}
 use Rattle.image.proofs.Skip.{pass-terms, pass-conditions, pass-sentences, pass-nothing, pass-result}
 
 -- With fewer brackets around, and in a result instead of a pattern, terms are still within the limits.

@@ -9,11 +9,11 @@ use lib.ListN.{length, getD, take, drop, length-drop, drop-of-length-le}
 use lib.Seq.{drop-cons}
 use lib.Dec.{ltb, leb, eqb}
 use borrow.Author.Tests.{lt-ltb, le-ltb, le-leb, lt-leb, eq-eqb, ne-eqb}
-use Rattle.image.specs.Bytes.{get32}
-use Rattle.image.specs.Limits.{pick, allowed}
-use Rattle.image.specs.Automaton.{Scan, scan}
+use Rattle.program.specs.Bytes.{get32}
+use Rattle.program.specs.Limits.{pick, allowed}
+use Rattle.program.specs.Automaton.{Scan, scan}
 use Rattle.image.specs.Steps.{refusal, refusalOf, spanRefusal, stepOf, spanStep, nameStep, push}
-use Rattle.image.specs.declared.reader.Refusal.{Refusal}
+use Rattle.program.specs.declared.Refusal.{Refusal}
 use Rattle.image.specs.declared.reader.Frame.{Frame}
 use Rattle.image.specs.declared.reader.Push.{Push}
 use Rattle.image.specs.declared.reader.Step.{Step}

@@ -9,11 +9,11 @@ use lib.Dec.{leb, eqb}
 use borrow.Author.Tests.{leb-true, leb-false, ne-eqb}
 use lib.ListN.{length, getD, take, drop, drop-of-length-le}
 use lib.Seq.{drop-cons, drop-drop, getD-drop}
-use Rattle.image.specs.Syntax.{Name, Span, Symbol, character, identifier, number, Kind, s-kind, t-kind, e-kind, Head, Terms, nil, symbol, variable, bracket, call, block, Conditions, none, condition, Sentences, empty, sentence}
-use Rattle.image.specs.Bytes.{put32, putSpan, putName}
-use Rattle.image.specs.Encode.{putSymbol, kindMark, putHead, putTerms, putConditions, putSentences}
-use Rattle.image.specs.Limits.{pick}
-use Rattle.image.proofs.Tests.{by-test}
+use Rattle.program.specs.Syntax.{Name, Span, Symbol, character, identifier, number, Kind, s-kind, t-kind, e-kind, Head, Terms, nil, symbol, variable, bracket, call, block, Conditions, none, condition, Sentences, empty, sentence}
+use Rattle.program.specs.Bytes.{put32, putSpan, putName}
+use Rattle.program.specs.Encode.{putSymbol, kindMark, putHead, putTerms, putConditions, putSentences}
+use Rattle.program.specs.Limits.{pick}
+use Rattle.program.proofs.Tests.{by-test}
 use Rattle.image.specs.Skip.{owed, fields, passing, pass}
 
 -- Past k bytes, and then n closes.

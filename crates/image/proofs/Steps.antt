@@ -10,17 +10,17 @@ use lib.ListN.{length, getD, take, drop, length-drop}
 use lib.Seq.{drop-cons}
 use lib.Dec.{ltb, leb, eqb}
 use borrow.Author.Tests.{lt-ltb, le-ltb, le-leb, lt-leb, ltb-true, ltb-false, leb-true, ne-eqb}
-use Rattle.image.specs.Syntax.{Span, Terms, Conditions, Sentences, Function, Program}
-use Rattle.image.specs.Bytes.{get32, getSpan}
-use Rattle.image.specs.Limits.{pick, Mode, allowed, scalar}
-use Rattle.image.specs.Automaton.{Stack, Values, TermMark, ConditionMark, SentenceMark, ItemMark, termMark, conditionMark, sentenceMark, itemMark, Turn, spanned, wrong, nested, outside, isNumber, Scan, scan, scanned, named, turnTerms, turnConditions, turnSentences, turnFunction, turnFunctions, turnBody, turnNames, turnCounted, turn}
+use Rattle.program.specs.Syntax.{Span, Terms, Conditions, Sentences, Function, Program}
+use Rattle.program.specs.Bytes.{get32, getSpan}
+use Rattle.program.specs.Limits.{pick, Mode, allowed, scalar}
+use Rattle.program.specs.Automaton.{Stack, Values, TermMark, ConditionMark, SentenceMark, ItemMark, termMark, conditionMark, sentenceMark, itemMark, Turn, spanned, wrong, nested, outside, isNumber, Scan, scan, scanned, named, turnTerms, turnConditions, turnSentences, turnFunction, turnFunctions, turnBody, turnNames, turnCounted, turn}
 use Rattle.image.specs.Steps.{refusal, refusalOf, spanRefusal, stepOf, spanStep, nameStep, frame, push, kindOn, frameOn, frames, pushed, Refuses, Goes, DoesAt, Does}
-use Rattle.image.specs.declared.reader.Refusal.{Refusal}
+use Rattle.program.specs.declared.Refusal.{Refusal}
 use Rattle.image.specs.declared.reader.Frame.{Frame}
 use Rattle.image.specs.declared.reader.Push.{Push}
 use Rattle.image.specs.declared.reader.Step.{Step}
-use Rattle.image.proofs.Numbers.{get32-drop}
-use Rattle.image.proofs.Sound.{scan-good}
+use Rattle.program.proofs.Numbers.{get32-drop}
+use Rattle.program.proofs.Sound.{scan-good}
 
 -- The bytes after p.
 abbrev rest : List ℕ → ℕ → List ℕ

@@ -11,14 +11,14 @@ use lib.ListN.{length, getD, take, drop, length-drop}
 use lib.Seq.{drop-cons}
 use lib.Dec.{ltb, leb, eqb}
 use borrow.Author.Tests.{lt-ltb, le-ltb, le-leb, lt-leb, ne-eqb, eqb-true, eqb-false, ltb-true, ltb-false}
-use Rattle.image.specs.Syntax.{Span, Symbol, Kind, Terms, Conditions, Sentences, Visibility, Function, Program}
-use Rattle.image.specs.Bytes.{get32}
-use Rattle.image.specs.Limits.{pick, Mode, scalar}
-use Rattle.image.specs.Automaton.{Stack, Values, Turn, wrong, spanned, nested, outside, named, Word, wordTerm, isNumber, TermMark, termMark, turnTerms, conditionMark, turnConditions, sentenceMark, turnSentences, ItemMark, itemMark, turnFunction, turnFunctions, turnBody, turnNames, turnCounted, turnVisibility, turnCode, turn}
+use Rattle.program.specs.Syntax.{Span, Symbol, Kind, Terms, Conditions, Sentences, Visibility, Function, Program}
+use Rattle.program.specs.Bytes.{get32}
+use Rattle.program.specs.Limits.{pick, Mode, scalar}
+use Rattle.program.specs.Automaton.{Stack, Values, Turn, wrong, spanned, nested, outside, named, Word, wordTerm, isNumber, TermMark, termMark, turnTerms, conditionMark, turnConditions, sentenceMark, turnSentences, ItemMark, itemMark, turnFunction, turnFunctions, turnBody, turnNames, turnCounted, turnVisibility, turnCode, turn}
 use Rattle.image.specs.Steps.{refusal, spanStep, nameStep, frame, push, kindOn, frameOn, frames, barredAs, DoesAt, Does, termsKind, TermsKind, bottom, bottomAfter}
 use Rattle.image.specs.declared.reader.Frame.{Frame}
 use Rattle.image.specs.declared.reader.Step.{Step}
-use Rattle.image.proofs.Numbers.{get32-drop}
+use Rattle.program.proofs.Numbers.{get32-drop}
 use Rattle.image.proofs.Steps.{span-at, bad-at, span-does, bad-does, go-does, name-does}
 
 -- Terms at a mode.

@@ -10,16 +10,15 @@ use lib.ListN.{length, getD, take, drop, length-drop}
 use lib.Seq.{drop-cons, drop-drop}
 use lib.Dec.{ltb, leb, eqb}
 use borrow.Author.Tests.{eq-eqb, ne-eqb, ltb-true, ltb-false, eqb-true, eqb-false}
-use Rattle.image.specs.Syntax.{Span, Head, Terms, Conditions, Sentences, Declaration, Function, Program}
-use Rattle.image.specs.Bytes.{get32, getSpan}
-use Rattle.image.specs.Encode.{putFunctions, putBody, putDeclarations, sentenceCount, ownSentenceCount}
-use Rattle.image.specs.Limits.{pick, Mode, scalar}
-use Rattle.image.specs.Automaton.{Stack, Values, Turn, wrong, spanned, nested, outside, Scan, scan, scanned, named, Word, TermMark, termMark, turnTerms, ConditionMark, conditionMark, turnConditions, SentenceMark, sentenceMark, turnSentences, ItemMark, itemMark, turnFunction, turnFunctions, turnBody, turnNames, turnCounted, turnVisibility, turnCode, turn, Read, made, atEnd, follow, run}
+use Rattle.program.specs.Syntax.{Span, Head, Terms, Conditions, Sentences, Declaration, Function, Program}
+use Rattle.program.specs.Bytes.{get32, getSpan, Bytes}
+use Rattle.program.specs.Encode.{putFunctions, putBody, putDeclarations, sentenceCount, ownSentenceCount}
+use Rattle.program.specs.Limits.{pick, Mode, scalar}
+use Rattle.program.specs.Automaton.{Stack, Values, Turn, wrong, spanned, nested, outside, Scan, scan, scanned, named, Word, TermMark, termMark, turnTerms, ConditionMark, conditionMark, turnConditions, SentenceMark, sentenceMark, turnSentences, ItemMark, itemMark, turnFunction, turnFunctions, turnBody, turnNames, turnCounted, turnVisibility, turnCode, turn, Read, made, atEnd, follow, run}
 use Rattle.image.specs.Steps.{refusal}
 use Rattle.image.specs.Tally.{counts, tallyOf, functionsIn, sentencesIn, firstIn, tallyIn}
 use Rattle.image.specs.declared.reader.Tally.{Tally}
-use Rattle.image.proofs.Numbers.{Bytes}
-use Rattle.image.proofs.Sound.{IsSentenceMark, IsItemMark, sentence-mark-is, item-mark-is, encodings, sound, apart}
+use Rattle.program.proofs.Sound.{IsSentenceMark, IsItemMark, sentence-mark-is, item-mark-is, encodings, sound, apart}
 
 -- How many frames lie on the bottom.
 abbrev pub height : Stack → ℕ

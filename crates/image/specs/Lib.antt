@@ -1,9 +1,3 @@
-pub mod Syntax
-pub mod Bytes
-pub mod Encode
-pub mod Limits
-pub mod Automaton
-pub mod Decode
 pub mod Parts
 pub mod Steps
 pub mod Tally

@@ -3,11 +3,12 @@ use Prim.Native.Nat.{ℕ, zero, suc, _≤_}
 use mathlib.Core.Path.{_≡_}
 use mathlib.Core.List.{List, [], _∷_, _++_}
 use lib.ListN.{length, drop}
-use Rattle.image.specs.Syntax.{Name, Head, Terms, nil, symbol, variable, bracket, call, block, Conditions, Sentences, empty, sentence, Function, Program}
-use Rattle.image.specs.Bytes.{putName}
-use Rattle.image.specs.Encode.{putHead, putTerms, putConditions, putFunction, putFunctions}
-use Rattle.image.specs.Limits.{Mode, ValidTerms, ValidConditions, ValidFunctions}
-use Rattle.image.specs.Decode.{Answer, decode}
+use Rattle.program.specs.Syntax.{Name, Head, Terms, nil, symbol, variable, bracket, call, block, Conditions, Sentences, empty, sentence, Function, Program}
+use Rattle.program.specs.Sentences.{Sentence}
+use Rattle.program.specs.Bytes.{putName}
+use Rattle.program.specs.Encode.{putHead, putTerms, putConditions, putFunction, putFunctions}
+use Rattle.program.specs.Limits.{Mode, ValidTerms, ValidConditions, ValidFunctions}
+use Rattle.program.specs.Decode.{Answer, decode}
 use Rattle.image.specs.declared.part.Found.{Found}
 
 -- The first n bytes of s are one whole, and `rest` comes after them.
@@ -36,13 +37,6 @@ tail (bracket s i r) = r
 tail (call s f a r) = r
 tail (block s a b r) = r
 
--- One sentence by itself.
-pub record Sentence : Type 0 where
-  pub head : Head
-  pub pattern : Terms
-  pub conditions : Conditions
-  pub result : Terms
-
 unfoldable pub putSentence : Sentence → List ℕ → List ℕ
 putSentence x k = putHead (x .head) (putTerms (x .pattern) (putConditions (x .conditions) (12 ∷ putTerms (x .result) k)))
 
@@ -53,15 +47,6 @@ pub record SentenceAt (s : List ℕ) : Type 0 where
   pub valid-pattern : ValidTerms (sentence .pattern) Mode.pattern 0
   pub valid-conditions : ValidConditions (sentence .conditions) 0
   pub valid-result : ValidTerms (sentence .result) Mode.result 0
-
--- "functions' sentences in file order, from 0"
-unfoldable pub sentenceList : Sentences → List Sentence
-sentenceList empty = []
-sentenceList (sentence h p c r b) = record { head = h; pattern = p; conditions = c; result = r } ∷ sentenceList b
-
-unfoldable pub ownSentences : List Function → List Sentence
-ownSentences [] = []
-ownSentences (f ∷ fs) = sentenceList (f .sentences) ++ ownSentences fs
 
 -- Functions to the end of s.
 pub record FunctionsAt (s : List ℕ) : Type 0 where

@@ -4,7 +4,7 @@ use mathlib.Core.Bool.{Bool, true, false, _||_}
 use mathlib.Core.List.{List, [], _∷_}
 use lib.ListN.{getD}
 use lib.Dec.{eqb}
-use Rattle.image.specs.Limits.{pick}
+use Rattle.program.specs.Limits.{pick}
 
 -- The closes owed after a mark where suc n were owed before it: a bracket and a call owe one more, a block two.
 -- A sentence owes those of its pattern and result, and a condition those of its own two, so each ends where what it owes is met.

@@ -5,10 +5,10 @@ use mathlib.Core.Bool.{Bool, true, false}
 use mathlib.Core.List.{List, [], _∷_}
 use lib.ListN.{length, getD, take, drop}
 use lib.Dec.{ltb, leb, eqb}
-use Rattle.image.specs.Bytes.{get32}
-use Rattle.image.specs.Limits.{pick, Mode}
-use Rattle.image.specs.Automaton.{Stack, Values, Scan, scan, Turn, turn}
-use Rattle.image.specs.declared.reader.Refusal.{Refusal}
+use Rattle.program.specs.Bytes.{get32}
+use Rattle.program.specs.Limits.{pick, Mode}
+use Rattle.program.specs.Automaton.{Stack, Values, Scan, scan, Turn, turn}
+use Rattle.program.specs.declared.Refusal.{Refusal}
 use Rattle.image.specs.declared.reader.Frame.{Frame}
 use Rattle.image.specs.declared.reader.Push.{Push}
 use Rattle.image.specs.declared.reader.Step.{Step}

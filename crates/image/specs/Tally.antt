@@ -5,12 +5,12 @@ use mathlib.Core.Bool.{Bool, true, false}
 use mathlib.Core.List.{List, [], _∷_}
 use lib.ListN.{length, getD, set, drop}
 use lib.Dec.{ltb, leb, eqb}
-use Rattle.image.specs.Syntax.{Program}
-use Rattle.image.specs.Encode.{putFunctions, sentenceCount, ownSentenceCount}
-use Rattle.image.specs.Limits.{pick}
-use Rattle.image.specs.Automaton.{Stack, Values, Read, run}
+use Rattle.program.specs.Syntax.{Program}
+use Rattle.program.specs.Encode.{putFunctions, sentenceCount, ownSentenceCount}
+use Rattle.program.specs.Limits.{pick}
+use Rattle.program.specs.Automaton.{Stack, Values, Read, run}
 use Rattle.image.specs.Steps.{refusal, frame, frameOn, bottom, bottomAfter, DoesAt, Does}
-use Rattle.image.specs.declared.reader.Refusal.{Refusal}
+use Rattle.program.specs.declared.Refusal.{Refusal}
 use Rattle.image.specs.declared.reader.Frame.{Frame}
 use Rattle.image.specs.declared.reader.Push.{Push}
 use Rattle.image.specs.declared.reader.Step.{Step}
@@ -19,7 +19,7 @@ use Rattle.image.specs.declared.reader.Tally.{Tally}
 use Rattle.image.specs.declared.reader.Progress.{Progress}
 use Rattle.image.specs.declared.reader.Spot.{Spot}
 use Rattle.image.specs.declared.reader.Checked.{Checked}
-use Rattle.image.specs.Decode.{Answer}
+use Rattle.program.specs.Decode.{Answer}
 
 abbrev pub counts : ℕ → ℕ → ℕ → Counts
 counts f s d = record { functions = f; sentences = s; first = d }

@@ -2,7 +2,7 @@
 ghost use mathlib.Core.Path.{_≡_};
 ghost use Prim.Native.Nat.{_+_, _<_, _≤_};
 ghost use lib.ListN.{length};
-ghost use Rattle.image.specs.Bytes.{get16, get32, getSpan};
+ghost use Rattle.program.specs.Bytes.{get16, get32, getSpan};
 
 fn wide(x: u8) -> u32
     ensures { λ r. ⌜ (r ≡ x) × (r < 256) ⌝ }

@@ -5,11 +5,12 @@ ghost use mathlib.Core.Path.{_≡_};
 ghost use mathlib.Core.List.{_∷_};
 ghost use Prim.Native.Nat.{ℕ, suc, _+_, _-_, _*_, _<_, _≤_, min};
 ghost use lib.ListN.{length, getD, take, drop};
-ghost use Rattle.image.specs.Encode.{putTerms, putConditions, putSentences, putFunctions, ownSentenceCount};
-ghost use Rattle.image.specs.Limits.{Mode};
-ghost use Rattle.image.specs.Decode.{bodyLength};
+ghost use Rattle.program.specs.Encode.{putTerms, putConditions, putSentences, putFunctions, ownSentenceCount};
+ghost use Rattle.program.specs.Limits.{Mode};
+ghost use Rattle.program.specs.Decode.{bodyLength};
 ghost use Rattle.image.specs.Skip.{owed, fields, pass};
-ghost use Rattle.image.specs.Parts.{Passes, NameAt, TermsAt, tail, SentenceAt, FunctionAt, FunctionsAt, FoundIn, ownSentences, Accepted};
+ghost use Rattle.image.specs.Parts.{Passes, NameAt, TermsAt, tail, SentenceAt, FunctionAt, FunctionsAt, FoundIn, Accepted};
+ghost use Rattle.program.specs.Sentences.{ownSentences};
 
 // The byte at i, 0 past the end.
 fn byte_or(s: &[u8], i: usize) -> usize

@@ -1,21 +1,16 @@
 // Checks a whole image in one pass: what is still to come lies on a small stack, and the first refusal met is the answer.
 use crate::number::read16;
 use crate::number::read32;
+use program::Refusal;
 ghost use mathlib.Core.Path.{_≡_};
 ghost use Prim.Native.Nat.{ℕ, _+_, _-_, _<_, _≤_};
 ghost use lib.ListN.{length, getD, drop};
-ghost use Rattle.image.specs.Limits.{Mode, allowed, scalar};
-ghost use Rattle.image.specs.Automaton.{scan, run, Stack};
-ghost use Rattle.image.specs.Decode.{decode, decodeSized};
+ghost use Rattle.program.specs.Limits.{Mode, allowed, scalar};
+ghost use Rattle.program.specs.Automaton.{scan, run, Stack};
+ghost use Rattle.program.specs.Decode.{decode, decodeSized};
 ghost use Rattle.image.specs.Steps.{refusal, refusalOf, spanRefusal, frame, push, spanStep, nameStep, barredAs, DoesAt, Does, TermsKind, bottom as bottomOf, bottomAfter};
 ghost use Rattle.image.specs.Tally.{checkedOf, tallyOf, unpacked, topOf, Stored, TurnDoes, functionOne, sentenceOne, bottomNext, firstNext, Alike, Ends, Stops, advancedBy, tallyEnd};
 ghost use mathlib.Core.Bool.{true};
-
-// A refusal and its place; number 0 is none.
-pub struct Refusal {
-    pub number: u8,
-    pub place: usize,
-}
 
 // What is wrong with the span at p.
 fn span_refusal(b: &[u8], p: usize) -> Refusal

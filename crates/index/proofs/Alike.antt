@@ -8,18 +8,19 @@ use mathlib.Core.Option.{some}
 use borrow.Author.Tests.{ltb-true, ltb-false}
 use lib.Dec.{ltb}
 use lib.ListN.{getD, getElem?, drop}
-use Rattle.image.specs.Syntax.{Name, Terms}
-use Rattle.image.specs.Encode.{putTerms}
-use Rattle.image.specs.Limits.{Mode, ValidTerms}
+use Rattle.program.specs.Syntax.{Name, Terms}
+use Rattle.program.specs.Encode.{putTerms}
+use Rattle.program.specs.Limits.{Mode, ValidTerms}
 use Rattle.image.specs.Parts.{TermsAt}
 use Rattle.symbols.proofs.Parts.{part-rest}
 use Rattle.overlap.proofs.Readings.{part}
-use Rattle.configuration.specs.Configuration.{sameConfiguration}
-use Rattle.restrictions.specs.Entries.{Held, CallAt, entryOffset}
+use Rattle.patterns.specs.Configuration.{sameConfiguration}
+use Rattle.told.specs.Numbered.{Held}
+use Rattle.restrictions.specs.Entries.{CallAt, entryOffset}
 use Rattle.restrictions.proofs.Modes.{plain-pattern}
-use Rattle.restrictions.proofs.Repeats.{repeats-exactly}
+use Rattle.meaning.proofs.Repeats.{repeats-exactly}
 use Rattle.index.specs.First.{First}
-use Rattle.index.specs.Calls.{isPlain, isListed, isCallOf}
+use Rattle.told.specs.Calls.{isPlain, isListed, isCallOf}
 use Rattle.index.specs.Links.{entryNext, isRepeat}
 use Rattle.index.specs.Lists.{ListAt, Among}
 use Rattle.index.proofs.First.{element-at, element-below, first-here, first-over, first-before}

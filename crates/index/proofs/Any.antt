@@ -7,7 +7,7 @@ use mathlib.Core.Bool.{Bool, true, false, _||_}
 use mathlib.Core.List.{List, [], _∷_}
 use mathlib.Core.Option.{some}
 use lib.ListN.{length, getElem?, drop, drop-of-length-le}
-use Rattle.restrictions.specs.Lists.{any}
+use Rattle.meaning.specs.Lists.{any}
 
 left-at : {A : Type 0} (l : List A) (i : ℕ) (x : A) → getElem? l i ≡ some x → drop i l ≡ x ∷ drop (suc i) l
 left-at [] i x q = let z : _≡_ {A = ℕ} 0 1 = cc in absurd (omega arith)

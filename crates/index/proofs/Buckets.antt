@@ -10,10 +10,10 @@ use lib.Dec.{eqb, ltb}
 use lib.ListN.{length, getD, getElem?, drop, set, drop-of-length-le, length-set}
 use lib.Seq.{drop-cons, getD-set-same, getD-set-other}
 use borrow.Author.Tests.{eqb-true, eqb-false, eq-eqb, ne-eqb, ltb-true, ltb-false}
-use Rattle.image.specs.Syntax.{Name, Function}
-use Rattle.symbols.specs.Names.{lower, caseless, sameName}
-use Rattle.symbols.proofs.Names.{sameName-iff}
-use Rattle.symbols.proofs.Equal.{caseless-length, caseless-at}
+use Rattle.program.specs.Syntax.{Name, Function}
+use Rattle.patterns.specs.Names.{lower, caseless, sameName}
+use Rattle.patterns.proofs.Names.{sameName-iff}
+use Rattle.patterns.proofs.Equal.{caseless-length, caseless-at}
 use Rattle.index.specs.First.{First}
 use Rattle.index.specs.Bucket.{hashFrom, bucketOf, inBucket, isNamed, Filed}
 use Rattle.index.proofs.Entries.{element-below, same-element}

@@ -1,12 +1,12 @@
 -- Which of a function's two lists a site is in.
 use mathlib.Core.Path.{_≡_, refl, sym, ap, ap₂, _∙_}
 use mathlib.Core.Bool.{Bool, true, false, _&&_, not, true≢false, and-false, and-eq-true-iff}
-use Rattle.image.specs.Syntax.{Name, Function}
-use Rattle.symbols.specs.Names.{sameName}
-use Rattle.symbols.proofs.Names.{sameName-sym, sameName-right}
-use Rattle.restrictions.specs.Entries.{Held}
+use Rattle.program.specs.Syntax.{Name, Function}
+use Rattle.patterns.specs.Names.{sameName}
+use Rattle.patterns.proofs.Names.{sameName-sym, sameName-right}
+use Rattle.told.specs.Numbered.{Held}
 use Rattle.index.specs.Bucket.{isNamed}
-use Rattle.index.specs.Calls.{isCallOf, isPlain, isListed}
+use Rattle.told.specs.Calls.{isCallOf, isPlain, isListed}
 
 module _ (f : Name) (y : Held) where
   pub no-call : (kind : Bool) → isCallOf f y ≡ false → isListed kind f y ≡ false

@@ -2,10 +2,10 @@
 use mathlib.Core.Path.{_≡_, refl, ap, _∙_}
 use mathlib.Core.Bool.{Bool, true, false, _||_}
 use mathlib.Core.List.{[], _∷_}
-use Rattle.image.specs.Syntax.{Name}
-use Rattle.symbols.specs.Names.{sameName}
-use Rattle.symbols.specs.Ascii.{ascii}
-use Rattle.restrictions.specs.Dispatch.{activatesACarriedCall}
+use Rattle.program.specs.Syntax.{Name}
+use Rattle.patterns.specs.Names.{sameName}
+use Rattle.patterns.specs.Ascii.{ascii}
+use Rattle.meaning.specs.Dispatch.{activatesACarriedCall}
 
 module _ (name : Name) where
   carried-is : activatesACarriedCall name ≡ (sameName name (77 ∷ 117 ∷ []) || sameName name (85 ∷ 112 ∷ []))

@@ -9,10 +9,11 @@ use borrow.Author.Tests.{ltb-true, ltb-false, eqb-true, eqb-false}
 use lib.Dec.{ltb, eqb}
 use lib.ListN.{length, getD, set, getElem?, length-set}
 use lib.Seq.{getD-set-same, getD-set-other}
-use Rattle.image.specs.Syntax.{Name}
-use Rattle.restrictions.specs.Entries.{Held, Entry}
+use Rattle.program.specs.Syntax.{Name}
+use Rattle.told.specs.Numbered.{Held}
+use Rattle.restrictions.specs.Entries.{Entry}
 use Rattle.index.specs.First.{First}
-use Rattle.index.specs.Calls.{isListed}
+use Rattle.told.specs.Calls.{isListed}
 use Rattle.index.specs.Links.{entryNext, entryClass, isRepeat, Classed}
 use Rattle.index.specs.Lists.{ListAt, Among, OnlyClasses}
 use Rattle.index.proofs.First.{Element, element-at, element-below}

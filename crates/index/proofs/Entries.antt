@@ -10,11 +10,12 @@ use lib.Dec.{eqb}
 use lib.ListN.{length, getD, getElem?, drop, set, length-append, length-set}
 use lib.Seq.{drop-drop, getD-set-same, getD-set-other}
 use borrow.Author.Tests.{eqb-true, eqb-false}
-use Rattle.image.specs.Syntax.{Name, Function}
-use Rattle.image.specs.Parts.{sentenceList, ownSentences, SentenceAt, FunctionAt}
-use Rattle.image.proofs.Own.{element}
-use Rattle.restrictions.proofs.Numbered.{sentences-counted}
-use Rattle.index.specs.Tables.{sentencesBefore, FunctionEntry, SentenceEntry, Apart}
+use Rattle.program.specs.Syntax.{Name, Function}
+use Rattle.program.specs.Sentences.{sentenceList, ownSentences}
+use Rattle.image.specs.Parts.{SentenceAt, FunctionAt}
+use Rattle.program.proofs.Own.{element, sentences-counted}
+use Rattle.told.specs.Numbered.{sentencesBefore}
+use Rattle.index.specs.Tables.{FunctionEntry, SentenceEntry, Apart}
 use Rattle.index.specs.Tabled.{Tabled}
 
 -- A place is below another, or that one.

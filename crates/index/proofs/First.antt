@@ -8,7 +8,7 @@ use mathlib.Core.Option.{some}
 use borrow.Author.Tests.{ltb-true, ltb-false}
 use lib.Dec.{ltb}
 use lib.ListN.{length, getElem?}
-use Rattle.restrictions.specs.Lists.{any}
+use Rattle.meaning.specs.Lists.{any}
 use Rattle.index.specs.First.{First}
 
 -- An element of a list at a place.

@@ -5,8 +5,8 @@ use mathlib.Core.Path.{_≡_, sym, ap, _∙_}
 use mathlib.Core.List.{List}
 use lib.ListN.{length, drop, length-drop}
 use lib.Seq.{drop-drop}
-use Rattle.image.specs.Bytes.{put32, putSpan, putName}
-use Rattle.image.specs.Encode.{putSentences, putFunction}
+use Rattle.program.specs.Bytes.{put32, putSpan, putName}
+use Rattle.program.specs.Encode.{putSentences, putFunction}
 use Rattle.image.specs.Parts.{NameAt, FunctionAt}
 use Rattle.symbols.proofs.Parts.{part-rest}
 use Rattle.overlap.proofs.Readings.{part}

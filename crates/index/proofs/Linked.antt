@@ -11,15 +11,16 @@ use lib.Dec.{eqb}
 use lib.ListN.{length, getD, getElem?, drop, set, length-set}
 use lib.Seq.{getD-set-same, getD-set-other}
 use borrow.Author.Tests.{eqb-true, eqb-false}
-use Rattle.image.specs.Syntax.{Name, Function}
-use Rattle.symbols.specs.Names.{sameName}
-use Rattle.symbols.proofs.Names.{sameName-sym, sameName-trans}
-use Rattle.restrictions.specs.Entries.{CallAt, Held, Entry}
+use Rattle.program.specs.Syntax.{Name, Function}
+use Rattle.patterns.specs.Names.{sameName}
+use Rattle.patterns.proofs.Names.{sameName-sym, sameName-trans}
+use Rattle.restrictions.specs.Entries.{CallAt, Entry}
+use Rattle.told.specs.Numbered.{Held}
 use Rattle.index.specs.First.{First}
 use Rattle.index.specs.Bucket.{isNamed}
-use Rattle.index.specs.Calls.{isCallOf, isPlain, isListed}
+use Rattle.told.specs.Calls.{isCallOf, isPlain, isListed}
 use Rattle.index.specs.Links.{listHead, FirstsHeaded, Chained}
-use Rattle.restrictions.specs.Sites.{restrictionIsCharacterisable}
+use Rattle.meaning.specs.Sites.{restrictionIsCharacterisable}
 use Rattle.index.specs.Linking.{Columns, Indexed, Pushed}
 use Rattle.index.proofs.Entries.{Element, element-below, element-of, same-element}
 use Rattle.index.proofs.Firsts.{first-end, first-here, first-sooner, first-agree, first-one}

@@ -7,15 +7,17 @@ use mathlib.Core.List.{List, _∷_}
 use mathlib.Core.Option.{some}
 use lib.ListN.{length, getD, getElem?, drop, set, length-set, length-drop}
 use lib.Seq.{getD-set-same, getD-set-other}
-use Rattle.image.specs.Syntax.{Function}
-use Rattle.image.specs.Encode.{putSentences, putFunctions}
-use Rattle.image.specs.Parts.{Passes, Sentence, ownSentences, FunctionAt, FunctionsAt}
+use Rattle.program.specs.Syntax.{Function}
+use Rattle.program.specs.Encode.{putSentences, putFunctions}
+use Rattle.image.specs.Parts.{Passes, FunctionAt, FunctionsAt}
+use Rattle.program.specs.Sentences.{Sentence, ownSentences}
 use Rattle.overlap.proofs.Readings.{part, part-length}
 use Rattle.restrictions.proofs.Going.{from-part}
 use Rattle.restrictions.proofs.Bytes.{functions-bytes}
-use Rattle.restrictions.proofs.Numbered.{own-counted}
+use Rattle.program.proofs.Own.{own-counted}
 use Rattle.restrictions.proofs.Places.{Place, FunctionIn, SentenceIn, place-none, place-close, place-function, place-inside, place-sentence, place-later, place-next}
-use Rattle.index.specs.Tables.{sentencesBefore, FunctionEntry, SentenceEntry, FunctionsIn, SentencesIn}
+use Rattle.told.specs.Numbered.{sentencesBefore}
+use Rattle.index.specs.Tables.{FunctionEntry, SentenceEntry, FunctionsIn, SentencesIn}
 use Rattle.index.proofs.Entries.{below-or-here, element-below, first-left, next-left, before-own, function-entered, sentence-entered}
 
 pub record Listing (b : List ℕ) (from : ℕ) (old : List ℕ) (lines : ℕ) (new : List ℕ) (p f s : ℕ) (h : FunctionsAt (drop from b)) : Type 0 where

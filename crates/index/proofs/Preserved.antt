@@ -6,11 +6,12 @@ use mathlib.Core.Path.{_≡_, refl, sym, ap, subst, _∙_}
 use mathlib.Core.Bool.{Bool}
 use mathlib.Core.List.{List}
 use lib.ListN.{length, getD}
-use Rattle.image.specs.Syntax.{Function}
-use Rattle.restrictions.specs.Entries.{Held, Entry}
+use Rattle.program.specs.Syntax.{Function}
+use Rattle.told.specs.Numbered.{Held, sentencesBefore}
+use Rattle.restrictions.specs.Entries.{Entry}
 use Rattle.index.specs.First.{First}
 use Rattle.index.specs.Bucket.{bucketOf, inBucket, Filed}
-use Rattle.index.specs.Tables.{sentencesBefore, FunctionEntry, SitesAt, Apart}
+use Rattle.index.specs.Tables.{FunctionEntry, SitesAt, Apart}
 use Rattle.index.specs.Tabled.{Tabled, SomeFiled}
 use Rattle.index.specs.Linking.{Columns, SomeSites, Indexed, LinksOnly, Pushed}
 use Rattle.index.proofs.Entries.{element-below}

@@ -9,13 +9,13 @@ use lib.Dec.{eqb}
 use lib.ListN.{length, getD, getElem?, set}
 use lib.Seq.{getD-set-same, getD-set-other}
 use borrow.Author.Tests.{eqb-true, eqb-false}
-use Rattle.image.specs.Syntax.{Function}
-use Rattle.symbols.specs.Names.{sameName}
-use Rattle.symbols.proofs.Names.{sameName-refl, sameName-sym}
-use Rattle.restrictions.specs.Entries.{Held}
+use Rattle.program.specs.Syntax.{Function}
+use Rattle.patterns.specs.Names.{sameName}
+use Rattle.patterns.proofs.Names.{sameName-refl, sameName-sym}
+use Rattle.told.specs.Numbered.{Held}
 use Rattle.index.specs.First.{First}
 use Rattle.index.specs.Bucket.{isNamed}
-use Rattle.index.specs.Calls.{isListed}
+use Rattle.told.specs.Calls.{isListed}
 use Rattle.index.specs.Links.{listHead, FirstsHeaded, Headed}
 use Rattle.index.proofs.Entries.{below-or-here, element-below, element-of, same-element}
 use Rattle.index.proofs.Firsts.{first-agree, first-before}

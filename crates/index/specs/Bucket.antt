@@ -6,8 +6,8 @@ use mathlib.Core.List.{List, [], _∷_}
 use mathlib.Core.Option.{some}
 use lib.Dec.{eqb}
 use lib.ListN.{length, getD, getElem?}
-use Rattle.image.specs.Syntax.{Name, Function}
-use Rattle.symbols.specs.Names.{caseless, sameName}
+use Rattle.program.specs.Syntax.{Name, Function}
+use Rattle.patterns.specs.Names.{caseless, sameName}
 use Rattle.index.specs.First.{First}
 
 -- A number of the small letters; nothing depends on which.

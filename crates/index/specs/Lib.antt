@@ -3,7 +3,6 @@ pub mod Layout
 pub mod Tables
 pub mod Bucket
 pub mod Tabled
-pub mod Calls
 pub mod Links
 pub mod Lists
 pub mod Linking

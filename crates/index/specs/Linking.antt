@@ -4,8 +4,8 @@ use mathlib.Core.Path.{_≡_}
 use mathlib.Core.Bool.{Bool, not}
 use mathlib.Core.List.{List}
 use lib.ListN.{length, getD}
-use Rattle.image.specs.Syntax.{Function}
-use Rattle.restrictions.specs.Entries.{Held}
+use Rattle.program.specs.Syntax.{Function}
+use Rattle.told.specs.Numbered.{Held}
 use Rattle.index.specs.Tables.{SitesAt}
 use Rattle.index.specs.Bucket.{Filed}
 use Rattle.index.specs.Tabled.{Tabled}

@@ -5,12 +5,12 @@ use mathlib.Core.Bool.{Bool, true, false, _&&_}
 use mathlib.Core.List.{List}
 use mathlib.Core.Option.{some}
 use lib.ListN.{getD, getElem?}
-use Rattle.image.specs.Syntax.{Name, Function}
-use Rattle.configuration.specs.Configuration.{sameConfiguration}
-use Rattle.restrictions.specs.Entries.{Held}
+use Rattle.program.specs.Syntax.{Name, Function}
+use Rattle.patterns.specs.Configuration.{sameConfiguration}
+use Rattle.told.specs.Numbered.{Held}
 use Rattle.index.specs.First.{First}
 use Rattle.index.specs.Bucket.{isNamed}
-use Rattle.index.specs.Calls.{isListed}
+use Rattle.told.specs.Calls.{isListed}
 
 -- A function's entry holds the heads of its two lists, 13 bits each.
 unfoldable pub listHead : Bool → ℕ → ℕ

@@ -3,7 +3,7 @@ use Prim.Native.Nat.{ℕ, _+_, _≤_, _<_}
 use mathlib.Core.Path.{_≡_}
 use mathlib.Core.List.{List}
 use lib.ListN.{length}
-use Rattle.image.specs.Syntax.{Function}
+use Rattle.program.specs.Syntax.{Function}
 use Rattle.index.specs.Tables.{FunctionsIn}
 use Rattle.index.specs.Bucket.{Filed}
 

@@ -4,16 +4,12 @@ use mathlib.Core.Path.{_≡_}
 use mathlib.Core.List.{List, [], _∷_}
 use mathlib.Core.Option.{some}
 use lib.ListN.{length, getD, getElem?, drop}
-use Rattle.image.specs.Syntax.{Function}
-use Rattle.image.specs.Encode.{sentenceCount}
-use Rattle.image.specs.Parts.{Sentence, SentenceAt, FunctionAt}
-use Rattle.restrictions.specs.Entries.{Held, Entry}
-
--- How many sentences the functions before the f-th have.
-unfoldable pub sentencesBefore : ℕ → List Function → ℕ
-sentencesBefore zero fs = 0
-sentencesBefore (suc f) [] = 0
-sentencesBefore (suc f) (x ∷ fs) = sentenceCount (x .sentences) + sentencesBefore f fs
+use Rattle.program.specs.Syntax.{Function}
+use Rattle.program.specs.Encode.{sentenceCount}
+use Rattle.program.specs.Sentences.{Sentence}
+use Rattle.image.specs.Parts.{SentenceAt, FunctionAt}
+use Rattle.told.specs.Numbered.{Held, sentencesBefore}
+use Rattle.restrictions.specs.Entries.{Entry}
 
 -- The entry of the function x, whose first sentence has the number k: its place, 15 bits, and above it k, 12 bits.
 pub record FunctionEntry (b : List ℕ) (e : ℕ) (x : Function) (k : ℕ) : Type 0 where

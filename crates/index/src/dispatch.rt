@@ -5,9 +5,10 @@ ghost use mathlib.Core.Path.{_≡_};
 ghost use mathlib.Core.List.{List};
 ghost use Prim.Native.Nat.{_+_, _≤_};
 ghost use lib.ListN.{length, drop};
-ghost use Rattle.restrictions.specs.Lists.{any};
-ghost use Rattle.restrictions.specs.Dispatch.{activatesACarriedCall};
-ghost use Rattle.restrictions.specs.Entries.{CallAt, Held};
+ghost use Rattle.meaning.specs.Lists.{any};
+ghost use Rattle.meaning.specs.Dispatch.{activatesACarriedCall};
+ghost use Rattle.restrictions.specs.Entries.{CallAt};
+ghost use Rattle.told.specs.Numbered.{Held};
 ghost use Rattle.index.specs.Tables.{SitesAt};
 ghost use Rattle.index.specs.Linking.{SomeSites};
 

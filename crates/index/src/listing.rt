@@ -5,7 +5,8 @@ ghost use mathlib.Core.Path.{_≡_};
 ghost use mathlib.Core.List.{List};
 ghost use Prim.Native.Nat.{ℕ, _+_, _/_, _%_, _<_, _≤_};
 ghost use lib.ListN.{length, getD, drop};
-ghost use Rattle.image.specs.Parts.{ownSentences, FunctionsAt};
+ghost use Rattle.program.specs.Sentences.{ownSentences};
+ghost use Rattle.image.specs.Parts.{FunctionsAt};
 ghost use Rattle.index.specs.Tables.{FunctionsIn, SentencesIn, Apart};
 
 // Every entry from `from` up to `end` becomes v.

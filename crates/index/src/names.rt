@@ -6,7 +6,7 @@ ghost use mathlib.Core.Path.{_≡_};
 ghost use mathlib.Core.List.{List};
 ghost use Prim.Native.Nat.{ℕ, _+_, _%_, _<_, _≤_};
 ghost use lib.ListN.{length, getD, drop};
-ghost use Rattle.image.specs.Syntax.{Function};
+ghost use Rattle.program.specs.Syntax.{Function};
 ghost use Rattle.image.specs.Parts.{FunctionAt};
 ghost use Rattle.index.specs.First.{First};
 ghost use Rattle.index.specs.Tables.{Apart};

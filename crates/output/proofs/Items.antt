@@ -6,7 +6,7 @@ use mathlib.Core.Bool.{Bool, true, false, cond}
 use mathlib.Core.List.{List, _∷_}
 use lib.ListN.{length, getD, drop}
 use borrow.Author.Tests.{eq-eqb, ne-eqb}
-use Rattle.image.specs.Encode.{putHead, putSentences, putFunction}
+use Rattle.program.specs.Encode.{putHead, putSentences, putFunction}
 use Rattle.image.specs.Parts.{Passes, putSentence, SentenceAt, FunctionAt}
 use Rattle.output.specs.Items.{Item, after, isSentence, isWritten, sentenceOne, keptOne}
 use Rattle.output.proofs.Walking.{written-is, one-is, kept-is}

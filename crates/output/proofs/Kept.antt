@@ -6,18 +6,19 @@ use mathlib.Core.Path.{_≡_, refl, sym, ap, _∙_}
 use mathlib.Core.Bool.{Bool, true, false, cond}
 use mathlib.Core.List.{List, [], _∷_}
 use lib.ListN.{length, length-append}
-use Rattle.image.specs.Syntax.{Head, Terms, Conditions, Sentences, Function, Program}
-use Rattle.image.specs.Bytes.{putName}
-use Rattle.image.specs.Encode.{putHead, putTerms, putConditions, putSentences, visibilityByte, putFunction, putFunctions, putDeclarations, putBody, sentenceCount, ownSentenceCount, encode}
-use Rattle.image.specs.Parts.{Sentence, putSentence, Accepted}
-use Rattle.image.specs.Limits.{Valid, ValidSentences, ValidFunctions}
-use Rattle.image.specs.Decode.{Answer, decode}
-use Rattle.image.proofs.Numbers.{Bytes}
-use Rattle.image.proofs.Lengths.{span-length, name-length, encode-length}
-use Rattle.image.proofs.RoundTrip.{decode-encode, encode-decode}
-use Rattle.cleaning.specs.Kept.{keptSentences, keptFunction, keptFunctions, keptProgram}
-use Rattle.cleaning.proofs.Kept.{all-kept}
-use Rattle.output.proofs.Splits.{sentence-splits, declarations-splits}
+use Rattle.program.specs.Syntax.{Head, Terms, Conditions, Sentences, Function, Program}
+use Rattle.program.specs.Bytes.{putName, Bytes}
+use Rattle.program.specs.Encode.{putHead, putTerms, putConditions, putSentences, visibilityByte, putFunction, putFunctions, putDeclarations, putBody, sentenceCount, ownSentenceCount, encode}
+use Rattle.program.specs.Sentences.{Sentence}
+use Rattle.image.specs.Parts.{putSentence, Accepted}
+use Rattle.program.specs.Limits.{Valid, ValidSentences, ValidFunctions}
+use Rattle.program.specs.Decode.{Answer, decode}
+use Rattle.program.proofs.Lengths.{span-length, name-length, encode-length}
+use Rattle.program.proofs.RoundTrip.{decode-encode, encode-decode}
+use Rattle.told.specs.Kept.{keptSentences, keptFunction, keptFunctions, keptProgram}
+use Rattle.told.proofs.Kept.{all-kept}
+use Rattle.output.proofs.SentenceSplits.{sentence-splits}
+use Rattle.program.proofs.Splits.{declarations-splits}
 
 -- how many functions there are does not change
 pub kept-functions : (keep : ℕ → Bool) (i : ℕ) (fs : List Function) → length (keptFunctions keep i fs) ≡ length fs

@@ -1,7 +1,7 @@
 pub mod Writing
 pub mod Marks
 pub mod Ones
-pub mod Splits
+pub mod SentenceSplits
 pub mod Walking
 pub mod Items
 pub mod Kept

@@ -12,7 +12,7 @@ use borrow.Rule.Slice.PartMut.{midOf, postOf, putMid, same-len-mid, mid-len}
 use Rattle.index.specs.declared.Plan.{Plan}
 use Rattle.index.specs.Layout.{lines, marks, calls, room}
 use Rattle.index.specs.Tables.{Apart}
-use Rattle.cleaning.specs.Kept.{isKept}
+use Rattle.told.specs.Kept.{isKept}
 use Rattle.cleaning.specs.Indexed.{fellOf}
 
 -- A part of a list put back in its place: the part is what was put, and all else is as it was.

@@ -10,7 +10,7 @@ use lib.Seq.{getD-set-same, getD-set-other}
 use lib.Dec.{eqb, ltb}
 use lib.Pow.{pow-lt, pow-pos}
 use borrow.Author.Tests.{eqb-true, eqb-false, eq-eqb, ne-eqb, ltb-true, ltb-false, lt-ltb, le-ltb}
-use Rattle.cleaning.specs.Kept.{isKept}
+use Rattle.told.specs.Kept.{isKept}
 use Rattle.output.specs.Marks.{WithoutBit, BitsBelow}
 
 -- past the words no mark is set

@@ -9,9 +9,9 @@ use lib.ListN.{length, getD}
 use lib.Dec.{eqb}
 use borrow.Author.Tests.{eqb-true, eqb-false}
 use lib.Count.{ones, ones-step}
-use Rattle.image.specs.Syntax.{Sentences, Function}
-use Rattle.image.specs.Encode.{sentenceCount, ownSentenceCount}
-use Rattle.cleaning.specs.Kept.{isKept, keptSentences, keptFunction, keptFunctions}
+use Rattle.program.specs.Syntax.{Sentences, Function}
+use Rattle.program.specs.Encode.{sentenceCount, ownSentenceCount}
+use Rattle.told.specs.Kept.{isKept, keptSentences, keptFunction, keptFunctions}
 use Rattle.output.specs.Marks.{NoneFrom, keptCount}
 use Rattle.output.proofs.Marks.{kept-out}
 

@@ -6,15 +6,16 @@ use mathlib.Core.Bool.{Bool, true, false, cond}
 use mathlib.Core.List.{List, [], _∷_, _++_, append-assoc, append-nil}
 use lib.ListN.{length, take, drop, length-append, length-drop, drop-of-length-le, take-append-drop}
 use lib.Seq.{paste, take-at, drop-at, drop-drop, take-append-seam, length-take-le}
-use Rattle.image.specs.Syntax.{Sentences, Function}
-use Rattle.image.specs.Bytes.{put32, putSpan, putName}
-use Rattle.image.specs.Encode.{putHead, putSentences, visibilityByte, putFunction, putFunctions, sentenceCount, ownSentenceCount}
-use Rattle.image.specs.Limits.{ValidSentences, ValidFunctions}
-use Rattle.image.specs.Parts.{Passes, Sentence, putSentence, FunctionsAt}
-use Rattle.cleaning.specs.Kept.{keptSentences, keptFunction, keptFunctions}
+use Rattle.program.specs.Syntax.{Sentences, Function}
+use Rattle.program.specs.Bytes.{put32, putSpan, putName}
+use Rattle.program.specs.Encode.{putHead, putSentences, visibilityByte, putFunction, putFunctions, sentenceCount, ownSentenceCount}
+use Rattle.program.specs.Limits.{ValidSentences, ValidFunctions}
+use Rattle.image.specs.Parts.{Passes, putSentence, FunctionsAt}
+use Rattle.program.specs.Sentences.{Sentence}
+use Rattle.told.specs.Kept.{keptSentences, keptFunction, keptFunctions}
 use Rattle.output.specs.Written.{FunctionsWritten}
 use Rattle.output.specs.Items.{Item, after, isSentence, isWritten, sentenceOne, keptOne}
-use Rattle.output.proofs.Splits.{sentence-splits}
+use Rattle.output.proofs.SentenceSplits.{sentence-splits}
 
 -- what is left: functions, or a function's sentences and then functions
 pub data Rest : Type 0 where

@@ -6,18 +6,17 @@ use mathlib.Core.Bool.{Bool}
 use mathlib.Core.List.{List, [], _++_, append-assoc}
 use lib.ListN.{length, take, drop, length-append, length-drop}
 use lib.Seq.{paste, take-at, drop-at, drop-drop, take-paste, drop-paste, length-take-le}
-use Rattle.image.specs.Syntax.{Program}
-use Rattle.image.specs.Bytes.{put16, put32}
-use Rattle.image.specs.Encode.{putDeclarations, putFunctions, putBody, ownSentenceCount, trailer, encode}
-use Rattle.image.specs.Limits.{Valid, ValidFunctions}
-use Rattle.image.specs.Decode.{bodyLength}
+use Rattle.program.specs.Syntax.{Program}
+use Rattle.program.specs.Bytes.{put16, put32, Bytes}
+use Rattle.program.specs.Encode.{putDeclarations, putFunctions, putBody, ownSentenceCount, trailer, encode}
+use Rattle.program.specs.Limits.{Valid, ValidFunctions}
+use Rattle.program.specs.Decode.{bodyLength}
 use Rattle.image.specs.Parts.{Accepted, FunctionsAt}
-use Rattle.image.proofs.Numbers.{Bytes}
-use Rattle.image.proofs.Lengths.{functions-length, encode-length}
-use Rattle.image.proofs.RoundTrip.{encode-decode, body-is}
-use Rattle.cleaning.specs.Kept.{keptFunctions, keptProgram}
+use Rattle.program.proofs.Lengths.{functions-length, encode-length}
+use Rattle.program.proofs.RoundTrip.{encode-decode, body-is}
+use Rattle.told.specs.Kept.{keptFunctions, keptProgram}
 use Rattle.output.specs.Written.{FunctionsWritten}
-use Rattle.output.proofs.Splits.{declarations-splits}
+use Rattle.program.proofs.Splits.{declarations-splits}
 use Rattle.output.proofs.Kept.{kept-functions, functions-shorter}
 
 -- the body and the trailer

@@ -5,7 +5,7 @@ use mathlib.Core.Path.{_≡_, sym, ap, _∙_}
 use mathlib.Core.List.{List, [], _∷_, _++_, append-assoc}
 use lib.ListN.{length, getD, take, drop, set, length-drop, length-append, take-append-drop}
 use lib.Seq.{paste, paste-suc, getD-drop, sets-eq, take-at, drop-at, drop-drop, length-take-le}
-use Rattle.image.specs.Bytes.{put16, put32}
+use Rattle.program.specs.Bytes.{put16, put32}
 
 -- one more byte of a copy
 pub copy-turn : (d s : List ℕ) (at from j : ℕ) → at + j < length d → from + j < length s → set (paste d at (drop from s) j) (at + j) (getD s (from + j) 0) ≡ paste d at (drop from s) (j + 1)

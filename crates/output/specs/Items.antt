@@ -5,7 +5,7 @@ use mathlib.Core.Bool.{Bool, true, cond}
 use mathlib.Core.List.{List, _∷_}
 use lib.ListN.{getD}
 use lib.Dec.{eqb}
-use Rattle.image.specs.Encode.{putSentences}
+use Rattle.program.specs.Encode.{putSentences}
 use Rattle.image.specs.Parts.{SentenceAt, FunctionAt}
 
 -- What stands at the start of s.

@@ -4,7 +4,7 @@ ghost use mathlib.Core.List.{_++_};
 ghost use Prim.Native.Nat.{_+_, _≤_, _%_};
 ghost use lib.ListN.{length, take, drop};
 ghost use lib.Seq.{paste};
-ghost use Rattle.image.specs.Bytes.{put16, put32};
+ghost use Rattle.program.specs.Bytes.{put16, put32};
 
 // Copies n bytes of src from `from` on into dst from `to` on.
 pub fn copy_bytes(src: &[u8], from: usize, dst: &mut [u8], to: usize, n: usize)

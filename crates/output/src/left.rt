@@ -11,7 +11,7 @@ ghost use lib.Dec.{eqb, ltb};
 ghost use lib.ListN.{length, take, drop};
 ghost use Rattle.index.specs.Layout.{marks, calls, room};
 ghost use Rattle.index.specs.Tables.{Apart};
-ghost use Rattle.cleaning.specs.Kept.{isKept};
+ghost use Rattle.told.specs.Kept.{isKept};
 ghost use Rattle.cleaning.specs.Indexed.{fellOf};
 
 // Clears the mark of the sentence s if it fell.

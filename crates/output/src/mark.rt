@@ -5,9 +5,9 @@ ghost use mathlib.Core.List.{List};
 ghost use Prim.Native.Nat.{ℕ, _*_, _<_, _≤_};
 ghost use lib.ListN.{length};
 ghost use lib.Dec.{ltb};
-ghost use Rattle.image.specs.Syntax.{Function};
-ghost use Rattle.image.specs.Encode.{ownSentenceCount};
-ghost use Rattle.cleaning.specs.Kept.{isKept, keptFunctions};
+ghost use Rattle.program.specs.Syntax.{Function};
+ghost use Rattle.program.specs.Encode.{ownSentenceCount};
+ghost use Rattle.told.specs.Kept.{isKept, keptFunctions};
 ghost use Rattle.output.specs.Marks.{WithoutBit, BitsBelow, NoneFrom};
 
 // Whether the sentence i is kept; past the words of marks none is.

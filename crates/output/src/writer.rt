@@ -12,10 +12,10 @@ ghost use mathlib.Core.Bool.{cond};
 ghost use mathlib.Core.List.{_++_};
 ghost use Prim.Native.Nat.{_+_, _<_, _≤_};
 ghost use lib.ListN.{length, take, drop};
-ghost use Rattle.image.specs.Bytes.{put16, put32};
-ghost use Rattle.image.specs.Encode.{putFunctions, ownSentenceCount, encode};
+ghost use Rattle.program.specs.Bytes.{put16, put32};
+ghost use Rattle.program.specs.Encode.{putFunctions, ownSentenceCount, encode};
 ghost use Rattle.image.specs.Parts.{Passes, FunctionsAt, Accepted};
-ghost use Rattle.cleaning.specs.Kept.{isKept, keptFunctions, keptProgram};
+ghost use Rattle.told.specs.Kept.{isKept, keptFunctions, keptProgram};
 ghost use Rattle.output.specs.Items.{Item, after, isWritten, sentenceOne, keptOne};
 ghost use Rattle.output.specs.Written.{FunctionsWritten};
 

@@ -6,15 +6,15 @@ use mathlib.Core.Bool.{Bool, true, false, cond}
 use mathlib.Core.List.{List, [], _∷_}
 use lib.Dec.{ltb}
 use borrow.Author.Tests.{ltb-true, ltb-false, lt-ltb, le-ltb}
-use Rattle.image.specs.Syntax.{Terms}
-use Rattle.overlap.specs.declared.Verdict.{Verdict}
-use Rattle.overlap.specs.declared.Verdict.the-variants.{Disjoint, Overlap, Unknown}
-use Rattle.overlap.specs.declared.Found.{Found}
-use Rattle.overlap.specs.Search.{found, View, view, leftoverOverlap, ends, afterSplit, splitsFrom, absorbingSplit, overlapOfTerms, afterUnknown, afterHeads, entered, size, sequence}
+use Rattle.program.specs.Syntax.{Terms}
+use Rattle.patterns.specs.declared.Verdict.{Verdict}
+use Rattle.patterns.specs.declared.Verdict.the-variants.{Disjoint, Overlap, Unknown}
+use Rattle.patterns.specs.declared.Found.{Found}
+use Rattle.patterns.specs.Search.{found, View, view, leftoverOverlap, ends, afterSplit, splitsFrom, absorbingSplit, overlapOfTerms, afterUnknown, afterHeads, entered, size, sequence}
 use Rattle.overlap.specs.Memory.{costing}
-use Rattle.overlap.proofs.Size.{Below, view-below, AllWithin, ends-within, by-size}
-use Rattle.overlap.proofs.Unfold.{spend-one, no-fuel}
-use Rattle.overlap.proofs.Fuel.{splits-without}
+use Rattle.patterns.proofs.Size.{Below, view-below, AllWithin, ends-within, by-size}
+use Rattle.patterns.proofs.Unfold.{spend-one, no-fuel}
+use Rattle.patterns.proofs.Fuel.{splits-without}
 
 -- Fuel below the cost, and fuel that covers it.
 pub too-little : (c : ℕ) (v : Verdict) (f : ℕ) → f < c → costing c v f ≡ found Unknown 0

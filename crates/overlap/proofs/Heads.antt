@@ -4,17 +4,17 @@ use native.Mathlib.Omega.{arith}
 use mathlib.Core.Path.{_≡_, refl, sym, ap, ap₂, _∙_, subst}
 use mathlib.Core.List.{List}
 use lib.ListN.{length, drop, getD}
-use Rattle.image.specs.Syntax.{character, identifier, number, s-kind, t-kind, e-kind, Terms, nil, symbol, variable, bracket, call, block}
-use Rattle.image.specs.Bytes.{put32, putSpan}
-use Rattle.image.specs.Encode.{putTerms}
-use Rattle.image.specs.Limits.{Mode, ValidTerms}
+use Rattle.program.specs.Syntax.{character, identifier, number, s-kind, t-kind, e-kind, Terms, nil, symbol, variable, bracket, call, block}
+use Rattle.program.specs.Bytes.{put32, putSpan}
+use Rattle.program.specs.Encode.{putTerms}
+use Rattle.program.specs.Limits.{Mode, ValidTerms}
 use Rattle.image.specs.Parts.{TermsAt}
 use Rattle.image.proofs.Readings.{fewer-around}
-use Rattle.symbols.specs.Symbols.{sameSymbol}
+use Rattle.patterns.specs.Symbols.{sameSymbol}
 use Rattle.symbols.specs.Parts.{SymbolAt}
 use Rattle.symbols.proofs.Parts.{part-rest}
-use Rattle.overlap.specs.declared.Verdict.the-variants.{Disjoint, Overlap}
-use Rattle.overlap.specs.Search.{One, View, view, literalOverlap, start, overlapOfTerms, sequence}
+use Rattle.patterns.specs.declared.Verdict.the-variants.{Disjoint, Overlap}
+use Rattle.patterns.specs.Search.{One, View, view, literalOverlap, start, overlapOfTerms, sequence}
 use Rattle.overlap.specs.Parts.{HeadAt, PatternIn, HeadIn}
 use Rattle.overlap.proofs.Readings.{part, headMark, viewMark, pattern-mark, term-room, tail-part}
 

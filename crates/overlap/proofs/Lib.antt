@@ -1,16 +1,4 @@
-pub mod Verdicts
-pub mod Size
-pub mod Unfold
-pub mod Expression
-pub mod Fresh
-pub mod Disjoint
-pub mod Plain
-pub mod Meet
-pub mod Overlap
-pub mod Unknown
-pub mod Fuel
 pub mod Costs
-pub mod Table
 pub mod Readings
 pub mod Heads
 pub mod Turns

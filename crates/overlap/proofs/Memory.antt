@@ -9,12 +9,12 @@ use lib.Dec.{eqb}
 use lib.ListN.{length, getD, drop, set, length-set}
 use lib.Seq.{getD-set-same, getD-set-other}
 use borrow.Author.Tests.{eqb-true, eqb-false}
-use Rattle.image.specs.Encode.{putTerms}
-use Rattle.image.specs.Limits.{Mode}
+use Rattle.program.specs.Encode.{putTerms}
+use Rattle.program.specs.Limits.{Mode}
 use Rattle.image.specs.Parts.{Passes, TermsAt, tail}
-use Rattle.overlap.specs.declared.Verdict.{Verdict}
+use Rattle.patterns.specs.declared.Verdict.{Verdict}
 use Rattle.overlap.specs.declared.Room.{Room}
-use Rattle.overlap.specs.Search.{absorbingSplit, sequence, patternsOverlap}
+use Rattle.patterns.specs.Search.{absorbingSplit, sequence, patternsOverlap}
 use Rattle.overlap.specs.Parts.{TailOf, placeOf}
 use Rattle.overlap.specs.Memory.{Truthful, keyOf, codeOf, PairTold, EndTold, SplitTold, costing, Remembers, Searched, Lends, Recalled, Noted, tables}
 use Rattle.overlap.proofs.Readings.{in-body, on-tail}

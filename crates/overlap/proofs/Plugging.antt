@@ -8,24 +8,24 @@ use mathlib.Core.Logic.{_⊎_, ⊎-elim}
 use lib.Dec.{eqb}
 use borrow.Author.Tests.{eqb-true}
 use lib.ListN.{length, getD, drop}
-use Rattle.image.specs.Syntax.{Terms}
-use Rattle.image.specs.Encode.{putTerms}
-use Rattle.image.specs.Limits.{Mode}
+use Rattle.program.specs.Syntax.{Terms}
+use Rattle.program.specs.Encode.{putTerms}
+use Rattle.program.specs.Limits.{Mode}
 use Rattle.image.specs.Parts.{Passes, TermsAt, tail}
-use Rattle.overlap.specs.declared.Verdict.{Verdict}
-use Rattle.overlap.specs.declared.Verdict.the-variants.{Disjoint, Overlap, Unknown}
-use Rattle.overlap.specs.declared.Found.{Found}
+use Rattle.patterns.specs.declared.Verdict.{Verdict}
+use Rattle.patterns.specs.declared.Verdict.the-variants.{Disjoint, Overlap, Unknown}
+use Rattle.patterns.specs.declared.Found.{Found}
 use Rattle.overlap.specs.declared.Room.{Room}
 use Rattle.overlap.specs.declared.search.Opening.{Opening}
-use Rattle.overlap.specs.Search.{found, View, view, ends, afterSplit, splitsFrom, absorbingSplit, sequence}
+use Rattle.patterns.specs.Search.{found, View, view, ends, afterSplit, splitsFrom, absorbingSplit, sequence}
 use Rattle.overlap.specs.Steps.{isOverlap, remembered, behind, behindVerdict, endedBy}
 use Rattle.overlap.specs.Parts.{behindPlaces, PatternIn}
 use Rattle.overlap.specs.Memory.{codeOf, costing, Searched}
 use Rattle.overlap.specs.Stack.{restOf, otherOf, headsOf, soFarOf, firstOf, fuelOf, continued, resumed, Began, Plugs, plugs-none, plugs-split, InTurn, Rises, Pushed, Closes, isOut}
 use Rattle.image.proofs.Readings.{one-reading}
-use Rattle.overlap.proofs.Unfold.{no-fuel}
-use Rattle.overlap.proofs.Verdicts.{disjoint≢overlap, disjoint≢unknown, overlap≢unknown}
-use Rattle.overlap.proofs.Fuel.{splits-without, sequence-spends}
+use Rattle.patterns.proofs.Unfold.{no-fuel}
+use Rattle.patterns.proofs.Verdicts.{disjoint≢overlap, disjoint≢unknown, overlap≢unknown}
+use Rattle.patterns.proofs.Fuel.{splits-without, sequence-spends}
 use Rattle.overlap.proofs.Costs.{split-told, split-spends}
 use Rattle.overlap.proofs.Memory.{split-told-from}
 use Rattle.overlap.proofs.Values.{value-code, value-cost}

@@ -5,14 +5,14 @@ use mathlib.Core.Path.{_≡_, refl, sym, ap, _∙_}
 use mathlib.Core.List.{List}
 use lib.ListN.{length, take, drop, getD, length-drop}
 use lib.Seq.{drop-drop, getD-drop}
-use Rattle.image.specs.Syntax.{character, identifier, number, s-kind, t-kind, e-kind, Terms, nil, symbol, variable, bracket, call, block}
-use Rattle.image.specs.Bytes.{putName}
-use Rattle.image.specs.Encode.{putSymbol, kindMark, putTerms}
-use Rattle.image.specs.Limits.{Mode, ValidTerms}
+use Rattle.program.specs.Syntax.{character, identifier, number, s-kind, t-kind, e-kind, Terms, nil, symbol, variable, bracket, call, block}
+use Rattle.program.specs.Bytes.{putName}
+use Rattle.program.specs.Encode.{putSymbol, kindMark, putTerms}
+use Rattle.program.specs.Limits.{Mode, ValidTerms}
 use Rattle.image.specs.Parts.{Passes, TermsAt, tail}
-use Rattle.image.proofs.Lengths.{span-length, name-length, symbol-length, terms-length}
+use Rattle.program.proofs.Lengths.{span-length, name-length, symbol-length, terms-length}
 use Rattle.symbols.proofs.Parts.{part-rest}
-use Rattle.overlap.specs.Search.{One, View, view}
+use Rattle.patterns.specs.Search.{One, View, view}
 use Rattle.overlap.specs.Parts.{TailOf, placeOf, HeadAt, PatternIn, HeadIn}
 
 -- What the part `&s[i..]` holds.

@@ -5,20 +5,20 @@ use mathlib.Core.Path.{_≡_, refl, sym, ap, subst, _∙_}
 use mathlib.Core.Bool.{true, false, true≢false}
 use mathlib.Core.List.{List, [], _∷_}
 use lib.ListN.{length, getD}
-use Rattle.image.specs.Syntax.{s-kind, t-kind, e-kind, Terms, nil, symbol, variable, bracket, call, block}
-use Rattle.image.specs.Encode.{putTerms}
-use Rattle.image.specs.Limits.{Mode}
+use Rattle.program.specs.Syntax.{s-kind, t-kind, e-kind, Terms, nil, symbol, variable, bracket, call, block}
+use Rattle.program.specs.Encode.{putTerms}
+use Rattle.program.specs.Limits.{Mode}
 use Rattle.image.specs.Parts.{Passes, TermsAt, tail}
-use Rattle.overlap.specs.declared.Verdict.{Verdict}
-use Rattle.overlap.specs.declared.Verdict.the-variants.{Disjoint, Overlap, Unknown}
-use Rattle.overlap.specs.declared.Found.{Found}
-use Rattle.overlap.specs.Search.{found, View, view, leftoverOverlap, ends, afterSplit, splitsFrom, absorbingSplit, overlapOfTerms, afterUnknown, afterHeads, sequence}
+use Rattle.patterns.specs.declared.Verdict.{Verdict}
+use Rattle.patterns.specs.declared.Verdict.the-variants.{Disjoint, Overlap, Unknown}
+use Rattle.patterns.specs.declared.Found.{Found}
+use Rattle.patterns.specs.Search.{found, View, view, leftoverOverlap, ends, afterSplit, splitsFrom, absorbingSplit, overlapOfTerms, afterUnknown, afterHeads, sequence}
 use Rattle.overlap.specs.Steps.{isOverlap, isDisjoint, remembered, behind}
 use Rattle.overlap.specs.declared.search.Opening.{Opening}
 use Rattle.overlap.specs.Parts.{placeOf, PatternIn}
 use Rattle.overlap.specs.Stack.{Opened, Opens}
-use Rattle.overlap.proofs.Unfold.{no-fuel, absorbing-begins, one-begins, leftover-view, empty-first, empty-second, first-absorbs, second-absorbs, heads-compared}
-use Rattle.overlap.proofs.Verdicts.{disjoint≢unknown}
+use Rattle.patterns.proofs.Unfold.{no-fuel, absorbing-begins, one-begins, leftover-view, empty-first, empty-second, first-absorbs, second-absorbs, heads-compared}
+use Rattle.patterns.proofs.Verdicts.{disjoint≢unknown}
 use Rattle.overlap.proofs.Readings.{part, part-length, is-empty, is-not-empty, is-absorbing, one-head, next-at, term-long, moved, in-body, next-in}
 
 -- The terms from i on can stand for nothing exactly if all of them can.

@@ -1,11 +1,3 @@
-pub mod Expression
-pub mod Fresh
-pub mod Plain
-pub mod Search
-pub mod Meet
-pub mod Dry
-pub mod Starved
-pub mod Table
 pub mod Parts
 pub mod Steps
 pub mod Memory

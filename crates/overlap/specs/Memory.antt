@@ -6,14 +6,14 @@ use mathlib.Core.List.{List}
 use mathlib.Core.Logic.{_⊎_}
 use lib.Dec.{ltb}
 use lib.ListN.{length, getD, drop}
-use Rattle.image.specs.Encode.{putTerms}
-use Rattle.image.specs.Limits.{Mode}
+use Rattle.program.specs.Encode.{putTerms}
+use Rattle.program.specs.Limits.{Mode}
 use Rattle.image.specs.Parts.{Passes, TermsAt, tail}
-use Rattle.overlap.specs.declared.Verdict.{Verdict}
-use Rattle.overlap.specs.declared.Verdict.the-variants.{Disjoint, Overlap, Unknown}
-use Rattle.overlap.specs.declared.Found.{Found}
+use Rattle.patterns.specs.declared.Verdict.{Verdict}
+use Rattle.patterns.specs.declared.Verdict.the-variants.{Disjoint, Overlap, Unknown}
+use Rattle.patterns.specs.declared.Found.{Found}
 use Rattle.overlap.specs.declared.Room.{Room}
-use Rattle.overlap.specs.Search.{found, absorbingSplit, sequence, patternsOverlap}
+use Rattle.patterns.specs.Search.{found, absorbingSplit, sequence, patternsOverlap}
 
 -- A table of slots from an entry on, each a key and then a value; a key of 0 is an empty slot.
 abbrev pub Truthful : (ℕ → ℕ → Type 0) → List ℕ → ℕ → ℕ → Type 0

@@ -3,10 +3,10 @@ use Prim.Native.Nat.{ℕ, _+_, _-_, _≤_}
 use mathlib.Core.Path.{_≡_}
 use mathlib.Core.List.{List}
 use lib.ListN.{length, drop}
-use Rattle.image.specs.Syntax.{Terms}
-use Rattle.image.specs.Limits.{Mode}
+use Rattle.program.specs.Syntax.{Terms}
+use Rattle.program.specs.Limits.{Mode}
 use Rattle.image.specs.Parts.{TermsAt}
-use Rattle.overlap.specs.Search.{One, View, view}
+use Rattle.patterns.specs.Search.{One, View, view}
 
 -- Where a tail starts: its length tells.
 abbrev pub placeOf : List ℕ → List ℕ → ℕ

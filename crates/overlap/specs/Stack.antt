@@ -6,16 +6,16 @@ use mathlib.Core.List.{List}
 use mathlib.Core.Logic.{_⊎_}
 use lib.Dec.{eqb}
 use lib.ListN.{getD, drop}
-use Rattle.image.specs.Syntax.{Terms}
-use Rattle.image.specs.Limits.{Mode}
+use Rattle.program.specs.Syntax.{Terms}
+use Rattle.program.specs.Limits.{Mode}
 use Rattle.image.specs.Parts.{Passes, TermsAt}
-use Rattle.overlap.specs.declared.Verdict.{Verdict}
-use Rattle.overlap.specs.declared.Verdict.the-variants.{Disjoint, Overlap, Unknown}
-use Rattle.overlap.specs.declared.Found.{Found}
+use Rattle.patterns.specs.declared.Verdict.{Verdict}
+use Rattle.patterns.specs.declared.Verdict.the-variants.{Disjoint, Overlap, Unknown}
+use Rattle.patterns.specs.declared.Found.{Found}
 use Rattle.overlap.specs.declared.Room.{Room}
 use Rattle.overlap.specs.declared.search.Opening.{Opening}
 use Rattle.overlap.specs.declared.search.Leading.{Leading}
-use Rattle.overlap.specs.Search.{found, ends, afterSplit, splitsFrom, absorbingSplit, sequence}
+use Rattle.patterns.specs.Search.{found, ends, afterSplit, splitsFrom, absorbingSplit, sequence}
 use Rattle.overlap.specs.Steps.{behind}
 use Rattle.overlap.specs.Parts.{behindPlaces, placeOf}
 use Rattle.overlap.specs.Memory.{keyOf, codeOf, SplitTold}

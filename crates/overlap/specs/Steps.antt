@@ -1,9 +1,9 @@
 -- What the code's small functions on verdicts answer.
 use mathlib.Core.Bool.{Bool, true, false}
-use Rattle.overlap.specs.declared.Verdict.{Verdict}
-use Rattle.overlap.specs.declared.Verdict.the-variants.{Disjoint, Overlap, Unknown}
-use Rattle.overlap.specs.declared.Found.{Found}
-use Rattle.overlap.specs.Search.{found, afterUnknown}
+use Rattle.patterns.specs.declared.Verdict.{Verdict}
+use Rattle.patterns.specs.declared.Verdict.the-variants.{Disjoint, Overlap, Unknown}
+use Rattle.patterns.specs.declared.Found.{Found}
+use Rattle.patterns.specs.Search.{found, afterUnknown}
 
 abbrev pub isOverlap : Verdict → Bool
 isOverlap Disjoint = false

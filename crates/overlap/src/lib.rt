@@ -4,27 +4,16 @@ mod slots;
 mod stack;
 mod terms;
 
+use patterns::Found;
+use patterns::Verdict;
 ghost use mathlib.Core.Path.{_≡_};
 ghost use Prim.Native.Nat.{_≤_};
 ghost use lib.ListN.{length, drop};
-ghost use Rattle.image.specs.Limits.{Mode};
+ghost use Rattle.program.specs.Limits.{Mode};
 ghost use Rattle.image.specs.Parts.{TermsAt};
-ghost use Rattle.overlap.specs.Search.{found, literalOverlap, start, sequence, patternsOverlap};
+ghost use Rattle.patterns.specs.Search.{found, literalOverlap, start, sequence, patternsOverlap};
 ghost use Rattle.overlap.specs.Memory.{Remembers, Searched};
 ghost use Rattle.overlap.specs.Steps.{isOverlap, isDisjoint, remembered, behind, behindVerdict, endedBy};
-
-// The answer to whether one expression can match two patterns.
-pub enum Verdict {
-    Disjoint,
-    Overlap,
-    Unknown,
-}
-
-// A verdict, with the fuel that is left.
-pub struct Found {
-    pub verdict: Verdict,
-    pub fuel: u32,
-}
 
 // How the entries lent to a search are divided: so many for open splits, so many for how the first of them began, then three
 // tables of so many slots.

@@ -1,9 +1,7 @@
 // The search: "sequence, split and term call one another on falling lengths". Where its calls would nest too deep, it goes on
 // with a stack in the room.
-use crate::Found;
 use crate::OVERLAP_FUEL;
 use crate::Room;
-use crate::Verdict;
 use crate::behind_heads;
 use crate::is_disjoint;
 use crate::is_overlap;
@@ -22,15 +20,17 @@ use crate::terms::leftover_overlap;
 use crate::terms::place_of;
 use crate::terms::term_size;
 use image::part::term_len;
+use patterns::Found;
+use patterns::Verdict;
 use symbols::same_symbol;
 ghost use mathlib.Core.Path.{_≡_};
 ghost use Prim.Native.Nat.{ℕ, _+_, _-_, _/_, _%_, _≤_};
 ghost use lib.ListN.{length};
-ghost use Rattle.image.specs.Syntax.{Terms};
-ghost use Rattle.image.specs.Limits.{Mode};
-ghost use Rattle.image.specs.Encode.{putTerms};
+ghost use Rattle.program.specs.Syntax.{Terms};
+ghost use Rattle.program.specs.Limits.{Mode};
+ghost use Rattle.program.specs.Encode.{putTerms};
 ghost use Rattle.image.specs.Parts.{TermsAt, tail};
-ghost use Rattle.overlap.specs.Search.{absorbingSplit, overlapOfTerms, patternsOverlap, sequence};
+ghost use Rattle.patterns.specs.Search.{absorbingSplit, overlapOfTerms, patternsOverlap, sequence};
 ghost use Rattle.overlap.specs.Parts.{HeadAt, HeadIn, PatternIn, TailOf};
 ghost use Rattle.overlap.specs.Memory.{codeOf, costing, Lends, Searched};
 ghost use Rattle.overlap.specs.Stack.{Leads, Opened, Settled, Sound, isOut};

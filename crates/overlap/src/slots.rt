@@ -1,9 +1,9 @@
 // Tables of slots, each a key and a value, from an entry of the room on. Whatever was there may be overwritten.
-use crate::Verdict;
+use patterns::Verdict;
 ghost use mathlib.Core.Path.{_≡_};
 ghost use Prim.Native.Nat.{_+_, _*_, _<_, _≤_};
 ghost use lib.ListN.{length};
-ghost use Rattle.overlap.specs.declared.Verdict.{Verdict};
+ghost use Rattle.patterns.specs.declared.Verdict.{Verdict};
 ghost use Rattle.overlap.specs.Memory.{keyOf, codeOf, Recalled, Noted};
 
 // The key of two places of a body.

@@ -1,6 +1,5 @@
 // Open splits as entries of the room.
 use crate::Room;
-use crate::Verdict;
 use crate::behind_verdict;
 use crate::ended_by;
 use crate::is_overlap;
@@ -9,13 +8,14 @@ use crate::slots::code_of;
 use crate::slots::key_of;
 use crate::slots::note;
 use crate::terms::term_size;
+use patterns::Verdict;
 ghost use mathlib.Core.Path.{_≡_};
 ghost use Prim.Native.Nat.{ℕ, _+_, _*_, _<_, _≤_};
 ghost use mathlib.Core.List.{List};
 ghost use lib.ListN.{length, getD};
-ghost use Rattle.overlap.specs.declared.Found.{Found};
-ghost use Rattle.overlap.specs.Search.{found};
-ghost use Rattle.overlap.specs.declared.Verdict.the-variants.{Disjoint, Overlap};
+ghost use Rattle.patterns.specs.declared.Found.{Found};
+ghost use Rattle.patterns.specs.Search.{found};
+ghost use Rattle.patterns.specs.declared.Verdict.the-variants.{Disjoint, Overlap};
 ghost use Rattle.overlap.specs.Memory.{Lends, Remembers, Searched, tables};
 ghost use Rattle.overlap.specs.Stack.{restOf, otherOf, headsOf, soFarOf, firstOf, fuelOf, Entered, Closes, Plugs, Stacked, Rises, bitOf};
 

@@ -1,15 +1,15 @@
 // Terms of a body, by the tails that start with them.
 use crate::Room;
-use crate::Verdict;
 use crate::slots::note;
 use crate::slots::recall;
 use image::part::term_len;
+use patterns::Verdict;
 ghost use mathlib.Core.Path.{_≡_};
 ghost use lib.ListN.{length, getD};
-ghost use Rattle.image.specs.Encode.{putTerms};
-ghost use Rattle.image.specs.Limits.{Mode};
+ghost use Rattle.program.specs.Encode.{putTerms};
+ghost use Rattle.program.specs.Limits.{Mode};
 ghost use Rattle.image.specs.Parts.{Passes, TermsAt, tail};
-ghost use Rattle.overlap.specs.Search.{leftoverOverlap};
+ghost use Rattle.patterns.specs.Search.{leftoverOverlap};
 ghost use Rattle.overlap.specs.Parts.{PatternIn, TailOf, placeOf};
 ghost use Rattle.overlap.specs.Memory.{Lends, Searched};
 

@@ -1,9 +1,9 @@
 // Reads an image from standard input and compares the patterns of its first two sentences, or of its
 // first with itself where it has only one.
-use cleaner::OverlapAnswer;
+use answers::OverlapAnswer;
 use libc::STDIN_FILENO;
 use libc::STDOUT_FILENO;
-use overlap::Verdict;
+use patterns::Verdict;
 
 fn wide(x: u8) -> u64 {
     x as u64

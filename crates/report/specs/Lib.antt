@@ -1,7 +1,10 @@
-pub mod Fill
-pub mod Decimal
-pub mod Counts
-pub mod Report
-pub mod FormatTerm
-pub mod Parts
-pub mod Written
+pub mod Emitting
+pub mod Leading
+pub mod Listing
+pub mod Names
+pub mod Sentence
+pub mod Uncovered
+pub mod Undecided
+pub mod Format
+pub mod Removed
+pub mod Figures

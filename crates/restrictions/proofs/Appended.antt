@@ -5,8 +5,9 @@ use mathlib.Core.Path.{_≡_, refl, sym, ap, _∙_}
 use mathlib.Core.List.{List, [], _∷_, _++_, append-assoc}
 use lib.ListN.{length, take, drop, set, length-append, length-take, length-drop, take-append-drop}
 use lib.Seq.{take-append-seam, drop-append-seam, drop-drop}
-use Rattle.restrictions.specs.Sites.{Site}
-use Rattle.restrictions.specs.Entries.{Held, heldBy, Entry, SitesIn, Appended}
+use Rattle.meaning.specs.Sites.{Site}
+use Rattle.told.specs.Numbered.{Held, heldBy}
+use Rattle.restrictions.specs.Entries.{Entry, SitesIn, Appended}
 
 pub held-append : (k : ℕ) (xs ys : List Site) → heldBy k (xs ++ ys) ≡ heldBy k xs ++ heldBy k ys
 unfolding heldBy

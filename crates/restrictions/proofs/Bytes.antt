@@ -3,12 +3,12 @@ use Prim.Native.Nat.{ℕ, suc, _+_, _*_, _≤_}
 use native.Mathlib.Omega.{arith}
 use mathlib.Core.List.{List, [], _∷_, _++_}
 use lib.ListN.{length, length-append}
-use Rattle.image.specs.Syntax.{Terms, nil, symbol, variable, bracket, call, block, Conditions, none, condition, Sentences, empty, sentence, Function}
-use Rattle.image.specs.Bytes.{putName}
-use Rattle.image.specs.Encode.{putTerms, putConditions, putSentences, visibilityByte, putFunction, putFunctions, sentenceCount, ownSentenceCount}
-use Rattle.image.specs.Limits.{Mode, ValidTerms, ValidConditions, ValidSentences, ValidFunctions}
-use Rattle.image.proofs.Lengths.{span-length, name-length, symbol-length, head-length}
-use Rattle.restrictions.specs.Sites.{collectCallSites, conditionSites, sentenceSites, functionSites}
+use Rattle.program.specs.Syntax.{Terms, nil, symbol, variable, bracket, call, block, Conditions, none, condition, Sentences, empty, sentence, Function}
+use Rattle.program.specs.Bytes.{putName}
+use Rattle.program.specs.Encode.{putTerms, putConditions, putSentences, visibilityByte, putFunction, putFunctions, sentenceCount, ownSentenceCount}
+use Rattle.program.specs.Limits.{Mode, ValidTerms, ValidConditions, ValidSentences, ValidFunctions}
+use Rattle.program.proofs.Lengths.{span-length, name-length, symbol-length, head-length}
+use Rattle.meaning.specs.Sites.{collectCallSites, conditionSites, sentenceSites, functionSites}
 
 -- A call takes 12 bytes at least, and so does a sentence.
 mutual

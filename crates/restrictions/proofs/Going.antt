@@ -6,16 +6,17 @@ use mathlib.Core.Logic.{_⊎_, inl, inr}
 use mathlib.Core.List.{List, [], _∷_, _++_, append-assoc, append-nil}
 use lib.ListN.{length, getD, drop, set, length-append, length-drop, length-set}
 use lib.Seq.{drop-drop, getD-drop}
-use Rattle.image.specs.Bytes.{put32, putSpan, putName}
-use Rattle.image.specs.Encode.{putTerms, putConditions}
-use Rattle.image.specs.Limits.{Mode}
+use Rattle.program.specs.Bytes.{put32, putSpan, putName}
+use Rattle.program.specs.Encode.{putTerms, putConditions}
+use Rattle.program.specs.Limits.{Mode}
 use Rattle.image.specs.Parts.{Passes, TermsAt, putSentence, SentenceAt, tail}
-use Rattle.image.proofs.Lengths.{head-length, terms-length, conditions-length}
+use Rattle.program.proofs.Lengths.{head-length, terms-length, conditions-length}
 use Rattle.symbols.proofs.Parts.{part-rest}
 use Rattle.overlap.proofs.Readings.{part, part-length, part-part}
 use Rattle.restrictions.specs.declared.Walk.{Walk}
-use Rattle.restrictions.specs.Sites.{Site, site}
-use Rattle.restrictions.specs.Entries.{CallAt, heldBy, entryOffset, entrySentence, Entry, Appended}
+use Rattle.meaning.specs.Sites.{Site, site}
+use Rattle.restrictions.specs.Entries.{CallAt, entryOffset, entrySentence, Entry, Appended}
+use Rattle.told.specs.Numbered.{heldBy}
 use Rattle.restrictions.specs.Records.{Records, terms, conditions, putRecords, recordSites, ValidRecords, RecordsAt, Collected}
 use Rattle.restrictions.proofs.Marks.{tail-less}
 use Rattle.restrictions.proofs.Inside.{pattern-sites, pattern-result, records-length, BracketHere, CallHere, BlockHere, SentenceHere, ConditionHere, CloseHere, FlatHere, bracket-here, call-here, block-here, sentence-here, condition-here, result-here, close-here, flat-here}

@@ -4,14 +4,14 @@ use native.Mathlib.Omega.{arith}
 use mathlib.Core.Path.{_≡_, refl, ap, _∙_}
 use mathlib.Core.List.{List, [], _∷_, _++_}
 use lib.ListN.{length, getD, drop}
-use Rattle.image.specs.Syntax.{Span, Symbol, character, identifier, number, Kind, s-kind, t-kind, e-kind, Terms, nil, symbol, variable, bracket, call, block, none, condition, empty, sentence}
-use Rattle.image.specs.Bytes.{put32, putSpan}
-use Rattle.image.specs.Encode.{putSymbol, kindMark, putHead, putTerms, putConditions, putSentences}
-use Rattle.image.specs.Limits.{Mode, ValidTerms}
+use Rattle.program.specs.Syntax.{Span, Symbol, character, identifier, number, Kind, s-kind, t-kind, e-kind, Terms, nil, symbol, variable, bracket, call, block, none, condition, empty, sentence}
+use Rattle.program.specs.Bytes.{put32, putSpan}
+use Rattle.program.specs.Encode.{putSymbol, kindMark, putHead, putTerms, putConditions, putSentences}
+use Rattle.program.specs.Limits.{Mode, ValidTerms}
 use Rattle.image.specs.Parts.{putSentence, SentenceAt, tail}
-use Rattle.image.proofs.Lengths.{terms-length, conditions-length, sentences-length}
+use Rattle.program.proofs.Lengths.{terms-length, conditions-length, sentences-length}
 use Rattle.image.proofs.Readings.{fewer-around, fewer-around-sentences}
-use Rattle.restrictions.specs.Sites.{Site, site, collectCallSites, conditionSites, sentenceSites}
+use Rattle.meaning.specs.Sites.{Site, site, collectCallSites, conditionSites, sentenceSites}
 use Rattle.restrictions.specs.Entries.{CallAt}
 use Rattle.restrictions.specs.Records.{Records, terms, conditions, sentences, putRecords, recordSites, ValidRecords}
 

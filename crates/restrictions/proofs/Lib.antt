@@ -1,8 +1,3 @@
-pub mod Lists
-pub mod Repeats
-pub mod Covered
-pub mod Plain
-pub mod Earlier
 pub mod Marks
 pub mod Within
 pub mod Inside
@@ -11,9 +6,6 @@ pub mod Appended
 pub mod Going
 pub mod Readings
 pub mod Bytes
-pub mod Numbered
 pub mod Places
 pub mod Walking
-pub mod Verdicts
 pub mod Modes
-pub mod Examples

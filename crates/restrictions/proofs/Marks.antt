@@ -4,12 +4,12 @@ use native.Mathlib.Omega.{arith}
 use mathlib.Core.Path.{_≡_, refl}
 use mathlib.Core.List.{List}
 use lib.ListN.{length, getD}
-use Rattle.image.specs.Syntax.{Name, Span, character, identifier, number, s-kind, t-kind, e-kind, Terms, nil, symbol, variable, bracket, call, block, Sentences}
-use Rattle.image.specs.Bytes.{putName}
-use Rattle.image.specs.Encode.{putSymbol, kindMark, putTerms, putSentences}
+use Rattle.program.specs.Syntax.{Name, Span, character, identifier, number, s-kind, t-kind, e-kind, Terms, nil, symbol, variable, bracket, call, block, Sentences}
+use Rattle.program.specs.Bytes.{putName}
+use Rattle.program.specs.Encode.{putSymbol, kindMark, putTerms, putSentences}
 use Rattle.image.specs.Parts.{tail}
-use Rattle.image.proofs.Lengths.{span-length, name-length, symbol-length, terms-length, sentences-length}
-use Rattle.restrictions.specs.Sites.{collectCallSites, restrictionIsCharacterisable}
+use Rattle.program.proofs.Lengths.{span-length, name-length, symbol-length, terms-length, sentences-length}
+use Rattle.meaning.specs.Sites.{collectCallSites, restrictionIsCharacterisable}
 
 pub record IsBracket (t : Terms) : Type 0 where
   pub span : Span

@@ -3,10 +3,10 @@ use Prim.Native.Nat.{ℕ, suc}
 use mathlib.Core.Path.{_≡_, refl}
 use mathlib.Core.Bool.{true, false≢true, and-eq-true-iff}
 use mathlib.Core.List.{List}
-use Rattle.image.specs.Syntax.{Terms, nil, symbol, variable, bracket, call, block}
-use Rattle.image.specs.Limits.{Mode, ValidTerms}
+use Rattle.program.specs.Syntax.{Terms, nil, symbol, variable, bracket, call, block}
+use Rattle.program.specs.Limits.{Mode, ValidTerms}
 use Rattle.image.specs.Parts.{TermsAt}
-use Rattle.restrictions.specs.Sites.{restrictionIsCharacterisable}
+use Rattle.meaning.specs.Sites.{restrictionIsCharacterisable}
 
 pub plain-pattern : (t : Terms) (d : ℕ) → restrictionIsCharacterisable t ≡ true → ValidTerms t Mode.result d → ValidTerms t Mode.pattern d
 unfolding restrictionIsCharacterisable

@@ -5,12 +5,13 @@ use mathlib.Core.Path.{_≡_, refl, sym, ap, subst, _∙_}
 use mathlib.Core.List.{List, [], _∷_, _++_}
 use lib.ListN.{length, getD, drop, length-drop, drop-of-length-le}
 use lib.Seq.{drop-drop, getD-drop}
-use Rattle.image.specs.Syntax.{Sentences, Function}
-use Rattle.image.specs.Bytes.{putName}
-use Rattle.image.specs.Encode.{putHead, putTerms, putConditions, putSentences, visibilityByte, putFunction, putFunctions}
-use Rattle.image.specs.Limits.{ValidSentences, ValidFunctions}
-use Rattle.image.specs.Parts.{Passes, Sentence, putSentence, SentenceAt, sentenceList, ownSentences, FunctionAt}
-use Rattle.image.proofs.Lengths.{span-length, name-length, head-length, terms-length, conditions-length}
+use Rattle.program.specs.Syntax.{Sentences, Function}
+use Rattle.program.specs.Bytes.{putName}
+use Rattle.program.specs.Encode.{putHead, putTerms, putConditions, putSentences, visibilityByte, putFunction, putFunctions}
+use Rattle.program.specs.Limits.{ValidSentences, ValidFunctions}
+use Rattle.image.specs.Parts.{Passes, putSentence, SentenceAt, FunctionAt}
+use Rattle.program.specs.Sentences.{Sentence, sentenceList, ownSentences}
+use Rattle.program.proofs.Lengths.{span-length, name-length, head-length, terms-length, conditions-length}
 use Rattle.symbols.proofs.Parts.{part-rest}
 use Rattle.overlap.proofs.Readings.{part, part-length}
 use Rattle.restrictions.proofs.Going.{from-part}

@@ -4,18 +4,20 @@ use native.Mathlib.Omega.{arith}
 use mathlib.Core.Path.{_≡_, refl, sym, ap, subst, _∙_}
 use mathlib.Core.List.{List, [], _∷_, _++_}
 use lib.ListN.{length, drop, length-append, length-drop}
-use Rattle.image.specs.Syntax.{Terms}
-use Rattle.image.specs.Encode.{putTerms, putConditions}
-use Rattle.image.specs.Limits.{Mode}
-use Rattle.image.specs.Parts.{Passes, TermsAt, putSentence, Sentence, SentenceAt}
-use Rattle.image.proofs.Lengths.{head-length}
+use Rattle.program.specs.Syntax.{Terms}
+use Rattle.program.specs.Encode.{putTerms, putConditions}
+use Rattle.program.specs.Limits.{Mode}
+use Rattle.image.specs.Parts.{Passes, TermsAt, putSentence, SentenceAt}
+use Rattle.program.specs.Sentences.{Sentence}
+use Rattle.program.proofs.Lengths.{head-length}
 use Rattle.symbols.proofs.Parts.{part-rest}
 use Rattle.overlap.proofs.Readings.{part, part-length}
 use Rattle.restrictions.specs.declared.Walk.{Walk}
-use Rattle.restrictions.specs.Sites.{Site, collectCallSites, conditionSites}
-use Rattle.restrictions.specs.Entries.{heldBy, Appended}
+use Rattle.meaning.specs.Sites.{Site, collectCallSites, conditionSites}
+use Rattle.told.specs.Numbered.{heldBy, ownSites}
+use Rattle.restrictions.specs.Entries.{Appended}
 use Rattle.restrictions.specs.Records.{terms, conditions, putRecords, recordSites, RecordsAt, Collected}
-use Rattle.restrictions.specs.Numbered.{ownSites, SentenceCollected}
+use Rattle.restrictions.specs.Numbered.{SentenceCollected}
 use Rattle.restrictions.proofs.Inside.{pattern-sites}
 use Rattle.restrictions.proofs.Appended.{held-append, held-length, appended-length, appended-then}
 use Rattle.restrictions.proofs.Going.{from-part}

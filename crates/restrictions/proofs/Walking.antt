@@ -4,17 +4,20 @@ use native.Mathlib.Omega.{arith}
 use mathlib.Core.Path.{_≡_, refl, sym, ap, subst, _∙_}
 use mathlib.Core.List.{List, [], _++_, append-assoc, append-nil}
 use lib.ListN.{length, getD, drop, length-append, length-drop}
-use Rattle.image.specs.Syntax.{Function}
-use Rattle.image.specs.Encode.{putSentences, putFunctions}
-use Rattle.image.specs.Parts.{Passes, Sentence, ownSentences, FunctionAt, FunctionsAt}
+use Rattle.program.specs.Syntax.{Function}
+use Rattle.program.specs.Encode.{putSentences, putFunctions}
+use Rattle.image.specs.Parts.{Passes, FunctionAt, FunctionsAt}
+use Rattle.program.specs.Sentences.{Sentence, ownSentences}
 use Rattle.overlap.proofs.Readings.{part}
 use Rattle.restrictions.specs.declared.Walk.{Walk}
-use Rattle.restrictions.specs.Sites.{functionSites}
-use Rattle.restrictions.specs.Entries.{Held, heldBy, Appended}
-use Rattle.restrictions.specs.Numbered.{ownSites, heldSites, SentenceCollected}
+use Rattle.meaning.specs.Sites.{functionSites}
+use Rattle.told.specs.Numbered.{Held, heldBy, ownSites, heldSites}
+use Rattle.restrictions.specs.Entries.{Appended}
+use Rattle.restrictions.specs.Numbered.{SentenceCollected}
 use Rattle.restrictions.proofs.Appended.{held-length, appended-nothing, appended-length, appended-then}
 use Rattle.restrictions.proofs.Bytes.{functions-bytes}
-use Rattle.restrictions.proofs.Numbered.{numbered-length, own-counted}
+use Rattle.told.proofs.Numbered.{numbered-length}
+use Rattle.program.proofs.Own.{own-counted}
 use Rattle.restrictions.proofs.Places.{Place, FunctionIn, SentenceIn, place-none, place-close, place-function, place-part, place-fits, place-inside, place-sentence, place-later, place-next}
 
 pub record Walking (b : List ℕ) (from : ℕ) (old : List ℕ) (n : ℕ) (new : List ℕ) (p s c : ℕ) (h : FunctionsAt (drop from b)) : Type 0 where

@@ -5,18 +5,18 @@ use mathlib.Core.Path.{_≡_, refl, sym, ap, subst, _∙_}
 use mathlib.Core.Bool.{Bool, true, false, _&&_, and-assoc}
 use mathlib.Core.List.{List, [], _∷_}
 use lib.ListN.{length, getD, drop, length-drop}
-use Rattle.image.specs.Syntax.{Terms, nil, bracket}
-use Rattle.image.specs.Bytes.{put32, putSpan}
-use Rattle.image.specs.Encode.{putTerms}
-use Rattle.image.specs.Limits.{Mode, ValidTerms}
+use Rattle.program.specs.Syntax.{Terms, nil, bracket}
+use Rattle.program.specs.Bytes.{put32, putSpan}
+use Rattle.program.specs.Encode.{putTerms}
+use Rattle.program.specs.Limits.{Mode, ValidTerms}
 use Rattle.image.specs.Parts.{Passes, TermsAt, tail}
-use Rattle.image.proofs.Lengths.{terms-length}
+use Rattle.program.proofs.Lengths.{terms-length}
 use Rattle.image.proofs.Readings.{fewer-around}
 use Rattle.symbols.proofs.Parts.{part-rest}
 use Rattle.overlap.proofs.Readings.{part, part-length, part-part, tail-valid}
 use Rattle.configuration.proofs.Lockstep.{putAll}
-use Rattle.restrictions.specs.Lists.{all}
-use Rattle.restrictions.specs.Sites.{restrictionIsCharacterisable}
+use Rattle.meaning.specs.Lists.{all}
+use Rattle.meaning.specs.Sites.{restrictionIsCharacterisable}
 use Rattle.restrictions.proofs.Marks.{IsBracket, IsFlat, at-close, at-bracket, at-call, at-block, at-flat, tail-less}
 
 abbrev pub AllValid : List Terms → Type 0

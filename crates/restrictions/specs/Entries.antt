@@ -3,11 +3,12 @@ use Prim.Native.Nat.{ℕ, _+_, _/_, _%_, _≤_}
 use mathlib.Core.Path.{_≡_}
 use mathlib.Core.List.{List, [], _∷_, _++_}
 use lib.ListN.{length, take, drop}
-use Rattle.image.specs.Syntax.{Name, Span, Terms}
-use Rattle.image.specs.Bytes.{putSpan, putName}
-use Rattle.image.specs.Encode.{putTerms}
-use Rattle.image.specs.Limits.{Mode, ValidTerms}
-use Rattle.restrictions.specs.Sites.{Site}
+use Rattle.told.specs.Numbered.{Held}
+use Rattle.program.specs.Syntax.{Name, Span, Terms}
+use Rattle.program.specs.Bytes.{putSpan, putName}
+use Rattle.program.specs.Encode.{putTerms}
+use Rattle.program.specs.Limits.{Mode, ValidTerms}
+use Rattle.meaning.specs.Sites.{Site}
 
 -- "8 call (name, terms, close)": a call at the start of s.
 pub record CallAt (s : List ℕ) : Type 0 where
@@ -17,15 +18,6 @@ pub record CallAt (s : List ℕ) : Type 0 where
   pub rest : List ℕ
   pub is : s ≡ 8 ∷ putSpan span (putName callee (putTerms argument rest))
   pub valid : ValidTerms argument Mode.result 0
-
--- A site, and the number of the function's sentence that holds it: "a site of the function's sentence that holds the block".
-pub record Held : Type 0 where
-  pub sentence : ℕ
-  pub site : Site
-
-unfoldable pub heldBy : ℕ → List Site → List Held
-heldBy k [] = []
-heldBy k (x ∷ xs) = record { sentence = k; site = x } ∷ heldBy k xs
 
 -- The offset of the call, 15 bits, and above it the sentence's number, 12 bits.
 abbrev pub entryOffset : ℕ → ℕ

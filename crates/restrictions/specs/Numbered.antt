@@ -3,20 +3,13 @@ use Prim.Native.Nat.{ℕ, suc, _+_, _≤_}
 use mathlib.Core.Path.{_≡_}
 use mathlib.Core.List.{List, [], _∷_, _++_}
 use lib.ListN.{length, drop}
-use Rattle.image.specs.Limits.{Mode}
-use Rattle.image.specs.Parts.{TermsAt, Sentence, SentenceAt, FunctionsAt}
-use Rattle.restrictions.specs.Sites.{Site, collectCallSites, conditionSites, functionSites}
-use Rattle.restrictions.specs.Entries.{Held, heldBy, Appended}
+use Rattle.program.specs.Limits.{Mode}
+use Rattle.image.specs.Parts.{TermsAt, SentenceAt, FunctionsAt}
+use Rattle.program.specs.Sentences.{Sentence}
+use Rattle.meaning.specs.Sites.{Site, collectCallSites, conditionSites, functionSites}
+use Rattle.told.specs.Numbered.{heldBy, ownSites}
+use Rattle.restrictions.specs.Entries.{Appended}
 use Rattle.restrictions.specs.declared.Walk.{Walk}
-
--- "Sites per sentence: pattern, result, then each condition's result and pattern"
-unfoldable pub ownSites : Sentence → List Site
-ownSites x = collectCallSites (x .pattern) ++ (collectCallSites (x .result) ++ conditionSites (x .conditions))
-
--- "functions' sentences in file order": those of xs are numbered from k on.
-unfoldable pub heldSites : ℕ → List Sentence → List Held
-heldSites k [] = []
-heldSites k (x ∷ xs) = heldBy k (ownSites x) ++ heldSites (suc k) xs
 
 -- m entries have room, from n on, for the sites of what stands in b at a place.
 pub record RoomForTerms (b : List ℕ) (at n m : ℕ) : Type 0 where

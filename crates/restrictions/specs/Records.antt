@@ -3,11 +3,12 @@ use Prim.Native.Nat.{ℕ, _+_, _≤_}
 use mathlib.Core.Path.{_≡_}
 use mathlib.Core.List.{List, _∷_}
 use lib.ListN.{length, drop}
-use Rattle.image.specs.Syntax.{Terms, Conditions, Sentences}
-use Rattle.image.specs.Encode.{putTerms, putConditions, putSentences}
-use Rattle.image.specs.Limits.{Mode, ValidTerms, ValidConditions, ValidSentences}
-use Rattle.restrictions.specs.Sites.{Site, collectCallSites, conditionSites, sentenceSites}
-use Rattle.restrictions.specs.Entries.{heldBy, Appended}
+use Rattle.program.specs.Syntax.{Terms, Conditions, Sentences}
+use Rattle.program.specs.Encode.{putTerms, putConditions, putSentences}
+use Rattle.program.specs.Limits.{Mode, ValidTerms, ValidConditions, ValidSentences}
+use Rattle.meaning.specs.Sites.{Site, collectCallSites, conditionSites, sentenceSites}
+use Rattle.told.specs.Numbered.{heldBy}
+use Rattle.restrictions.specs.Entries.{Appended}
 use Rattle.restrictions.specs.declared.Walk.{Walk}
 
 pub data Records : Type 0 where

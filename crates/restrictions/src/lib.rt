@@ -8,13 +8,15 @@ use image::part::terms_len;
 ghost use mathlib.Core.Path.{_≡_};
 ghost use Prim.Native.Nat.{_<_, _≤_};
 ghost use lib.ListN.{length, drop};
-ghost use Rattle.image.specs.Encode.{putTerms};
-ghost use Rattle.image.specs.Limits.{Mode};
-ghost use Rattle.image.specs.Parts.{Passes, TermsAt, SentenceAt, ownSentences, FunctionsAt};
-ghost use Rattle.restrictions.specs.Sites.{collectCallSites, restrictionIsCharacterisable};
-ghost use Rattle.restrictions.specs.Entries.{CallAt, heldBy, entryOffset, entrySentence, Appended};
+ghost use Rattle.program.specs.Encode.{putTerms};
+ghost use Rattle.program.specs.Limits.{Mode};
+ghost use Rattle.image.specs.Parts.{Passes, TermsAt, SentenceAt, FunctionsAt};
+ghost use Rattle.program.specs.Sentences.{ownSentences};
+ghost use Rattle.meaning.specs.Sites.{collectCallSites, restrictionIsCharacterisable};
+ghost use Rattle.restrictions.specs.Entries.{CallAt, entryOffset, entrySentence, Appended};
+ghost use Rattle.told.specs.Numbered.{heldBy, heldSites};
 ghost use Rattle.restrictions.specs.Records.{RecordsAt, RoomFor, Collected};
-ghost use Rattle.restrictions.specs.Numbered.{heldSites, RoomForTerms, RoomForSentence, RoomForFunctions, SentenceCollected};
+ghost use Rattle.restrictions.specs.Numbered.{RoomForTerms, RoomForSentence, RoomForFunctions, SentenceCollected};
 
 // Whether the terms up to the close have no call and no block; the closes still to come are counted.
 pub fn restriction_is_characterisable(s: &[u8]) -> bool

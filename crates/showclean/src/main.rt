@@ -1,6 +1,6 @@
 // Reads an image from standard input, cleans it, and prints the report of the cleaning.
 ghost use Rattle.io.specs.Counts.{Counts};
-use cleaner::CleanAnswer;
+use answers::CleanAnswer;
 use libc::STDIN_FILENO;
 use libc::STDOUT_FILENO;
 

@@ -9,18 +9,18 @@ use lib.Dec.{eqb, leb, ltb}
 use lib.ListN.{length, take, drop, getD, length-drop}
 use lib.Seq.{take-all}
 use borrow.Author.Tests.{eqb-true, eq-eqb, ltb-true, leb-true}
-use Rattle.image.specs.Syntax.{Span, Symbol, character, identifier, number}
-use Rattle.image.specs.Bytes.{put32, putSpan, get32}
-use Rattle.image.specs.Encode.{putSymbol}
-use Rattle.image.specs.Limits.{pick, scalar, ValidSymbol}
+use Rattle.program.specs.Syntax.{Span, Symbol, character, identifier, number}
+use Rattle.program.specs.Bytes.{put32, putSpan, get32}
+use Rattle.program.specs.Encode.{putSymbol}
+use Rattle.program.specs.Limits.{pick, scalar, ValidSymbol}
 use Rattle.image.specs.Parts.{NameAt}
-use Rattle.image.proofs.Numbers.{get32-put32}
-use Rattle.image.proofs.Lengths.{symbol-length}
-use Rattle.symbols.specs.Names.{eqBytes, sameName}
-use Rattle.symbols.specs.Symbols.{key, eqSymbol, sameSymbol}
+use Rattle.program.proofs.Numbers.{get32-put32}
+use Rattle.program.proofs.Lengths.{symbol-length}
+use Rattle.patterns.specs.Names.{eqBytes, sameName}
+use Rattle.patterns.specs.Symbols.{key, eqSymbol, sameSymbol}
 use Rattle.symbols.specs.Parts.{SymbolAt}
-use Rattle.symbols.proofs.Tests.{same-test}
-use Rattle.symbols.proofs.Names.{eqBytes-iff}
+use Rattle.patterns.proofs.Tests.{same-test}
+use Rattle.patterns.proofs.Names.{eqBytes-iff}
 
 -- What the part `&s[i..]` holds.
 pub part-rest : (s : List ℕ) (i : ℕ) → take (length s - i) (drop i s) ≡ drop i s

@@ -2,9 +2,9 @@
 use Prim.Native.Nat.{ℕ}
 use mathlib.Core.Path.{_≡_}
 use mathlib.Core.List.{List}
-use Rattle.image.specs.Syntax.{Span, Symbol}
-use Rattle.image.specs.Encode.{putSymbol}
-use Rattle.image.specs.Limits.{ValidSymbol}
+use Rattle.program.specs.Syntax.{Span, Symbol}
+use Rattle.program.specs.Encode.{putSymbol}
+use Rattle.program.specs.Limits.{ValidSymbol}
 
 -- s begins with a symbol, mark and span included.
 pub record SymbolAt (s : List ℕ) : Type 0 where

@@ -1,8 +1,8 @@
 // Equality of names and symbols on an image's own bytes.
 use image::part::name_part;
 ghost use mathlib.Core.Path.{_≡_};
-ghost use Rattle.symbols.specs.Names.{lower, eqBytes, sameName};
-ghost use Rattle.symbols.specs.Symbols.{sameSymbol};
+ghost use Rattle.patterns.specs.Names.{lower, eqBytes, sameName};
+ghost use Rattle.patterns.specs.Symbols.{sameSymbol};
 ghost use Rattle.symbols.specs.Parts.{SymbolAt};
 
 // An ASCII capital's small letter.

@@ -3,7 +3,7 @@
 ghost use Rattle.io.specs.Counts.{Counts};
 use crate::records::Asked;
 use crate::records::pair;
-use cleaner::CleanAnswer;
+use answers::CleanAnswer;
 
 // What the lent bytes and entries hold before the call: not zero, so that a change is seen.
 const LENT_BYTE: u8 = 165;

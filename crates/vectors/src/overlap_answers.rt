@@ -2,8 +2,8 @@
 // that script says how a record is laid out.
 use crate::records::Asked;
 use crate::records::pair;
-use cleaner::OverlapAnswer;
-use overlap::Verdict;
+use answers::OverlapAnswer;
+use patterns::Verdict;
 
 // A record: the length of the image that follows (0: the image before stays), the two sentence
 // numbers, and the answer.

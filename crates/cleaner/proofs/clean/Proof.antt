@@ -2,8 +2,8 @@
 use denote.Ref.{now}
 use native.Mathlib.Omega.{arith}
 use mathlib.Core.Path.{sym, subst, _∙_}
-use Rattle.image.proofs.Loop.{bytes-of}
-use Rattle.cleaner.specs.Packed.{CleanFits}
+use Rattle.program.proofs.Numbers.{bytes-of}
+use Rattle.answers.specs.Packed.{CleanFits}
 use Rattle.cleaner.proofs.Sentences.{accepted-of}
 use Rattle.cleaner.proofs.Ends.{ended-short, ended-long, ended-output, ended-work, ended-refused, ended-accepted, refused-is}
 use borrow.Author.Needs.{needs}

@@ -5,7 +5,7 @@ use mathlib.Core.Path.{_≡_, sym, _∙_}
 use Prim.Native.Nat.{_-_}
 use lib.ListN.{length}
 use lib.Seq.{length-take-le}
-use Rattle.image.proofs.Loop.{bytes-of}
+use Rattle.program.proofs.Numbers.{bytes-of}
 use Rattle.image.proofs.Accepted.{accepted-long}
 use Rattle.cleaner.proofs.Start.{image-small}
 use Rattle.cleaner.proofs.Sentences.{functions-here, pattern-first, pattern-second, none-first, none-second, both-found}

@@ -1,7 +1,7 @@
 -- `compare::code_len` meets its contract. Assumes nothing.
 use mathlib.Core.Path.{ap}
 use lib.ListN.{length}
-use Rattle.report.proofs.Codes.{utf8-one}
+use Rattle.text.proofs.Codes.{utf8-one}
 use Rattle.compare.proofs.Letters.{two-bytes, three-bytes, four-bytes}
 use Rattle.compare.proofs.code_len.Statement.{statement}
 use Rattle.compare.proofs.code_len.Tie as tie

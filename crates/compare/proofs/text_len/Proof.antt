@@ -2,8 +2,8 @@
 use native.Mathlib.Omega.{arith}
 use mathlib.Core.Path.{sym, ap}
 use lib.ListN.{length}
-use Rattle.cleaning.specs.Text.{utf8}
-use Rattle.report.proofs.Leaves.{utf8-length}
+use Rattle.meaning.specs.Text.{utf8}
+use Rattle.text.proofs.Leaves.{utf8-length}
 use Rattle.compare.proofs.Letters.{code-room, name-room, length-of-code, length-of-name, length-of-variable, length-of-mark}
 use borrow.Author.Needs.{needs}
 use Rattle.compare.proofs.text_len.Statement.{statement}

@@ -4,8 +4,8 @@ use native.Mathlib.Omega.{arith}
 use mathlib.Core.Path.{sym, ap, _∙_}
 use mathlib.Core.List.{List}
 use lib.ListN.{length, getD}
-use Rattle.image.specs.Syntax.{character}
-use Rattle.cleaning.specs.Text.{formatSymbol}
+use Rattle.program.specs.Syntax.{character}
+use Rattle.meaning.specs.Text.{formatSymbol}
 use Rattle.compare.proofs.Letters.{text-code, text-name, text-variable, name-letter, code-room, name-room, length-of-name, length-of-variable, begin-letter, close-letter}
 use borrow.Author.Needs.{needs}
 use Rattle.compare.proofs.text_letter.Statement.{statement}

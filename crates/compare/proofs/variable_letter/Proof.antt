@@ -3,7 +3,7 @@ use native.Mathlib.Omega.{arith}
 use mathlib.Core.Path.{_∙_, refl}
 use mathlib.Core.List.{_∷_}
 use lib.ListN.{getD}
-use Rattle.report.specs.FormatTerm.{kindLetter}
+use Rattle.text.specs.FormatTerm.{kindLetter}
 use Rattle.compare.specs.Letters.{tokenName}
 use Rattle.compare.proofs.Letters.{place, variable-point, variable-name-letter}
 use borrow.Author.Needs.{needs}

@@ -3,7 +3,7 @@ use native.Mathlib.Omega.{arith}
 use Prim.Native.Nat.{_-_, _≤_}
 use mathlib.Core.Path.{sym}
 use lib.ListN.{length}
-use Rattle.symbols.specs.Names.{caseless}
+use Rattle.patterns.specs.Names.{caseless}
 use Rattle.configuration.specs.Lockstep.{Walked}
 use Rattle.configuration.proofs.Scan.{part-length, Scanning, scanning-first, scanning-end, one-part, two-part, first-met, second-met, token-moves, scanning-next}
 use Rattle.configuration.proofs.first_seen_alike.Statement.{statement}

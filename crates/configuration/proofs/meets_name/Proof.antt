@@ -5,7 +5,7 @@ use denote.Ref.{now}
 use mathlib.Core.Path.{sym, ap, _∙_}
 use mathlib.Core.List.{List}
 use Prim.Native.Nat.{ℕ}
-use Rattle.symbols.specs.Names.{caseless, sameName}
+use Rattle.patterns.specs.Names.{caseless, sameName}
 use Rattle.configuration.proofs.Tokens.{pattern-room, variable-room, variable-name, name-meets, meets-none}
 use Rattle.configuration.proofs.meets_name.Statement.{statement}
 use Rattle.configuration.proofs.meets_name.Tie as tie

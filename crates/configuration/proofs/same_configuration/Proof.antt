@@ -3,7 +3,7 @@ use native.Mathlib.Omega.{arith}
 use Prim.Native.Nat.{_+_, _-_, _≤_}
 use mathlib.Core.Path.{sym, _∙_}
 use lib.ListN.{length, getD}
-use Rattle.image.specs.Limits.{Mode}
+use Rattle.program.specs.Limits.{Mode}
 use Rattle.image.specs.Parts.{TermsAt}
 use Rattle.configuration.proofs.Tokens.{pattern-room}
 use Rattle.configuration.proofs.Scan.{part, part-length}

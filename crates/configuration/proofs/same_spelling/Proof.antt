@@ -4,7 +4,7 @@ use borrow.Author.Needs.{needs}
 use mathlib.Core.Path.{_∙_, ap}
 use mathlib.Core.List.{List}
 use Prim.Native.Nat.{ℕ}
-use Rattle.symbols.specs.Names.{eqBytes}
+use Rattle.patterns.specs.Names.{eqBytes}
 use Rattle.symbols.proofs.Parts.{symbol-room}
 use Rattle.configuration.proofs.Spans.{characters-spelled, characters-room, names-in, part-name}
 use Rattle.configuration.proofs.same_spelling.Statement.{statement}

@@ -1,5 +1,5 @@
 -- `configuration::token_len` meets its contract. Assumes nothing.
-use Rattle.image.specs.Limits.{Mode}
+use Rattle.program.specs.Limits.{Mode}
 use Rattle.image.proofs.Readings.{result-at}
 use Rattle.configuration.proofs.Tokens.{pattern-room, close-passed, bracket-passed, flat-passed}
 use Rattle.configuration.proofs.token_len.Statement.{statement}

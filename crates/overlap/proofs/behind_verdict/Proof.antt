@@ -1,10 +1,10 @@
 -- `overlap::behind_verdict` meets its contract.
 use mathlib.Core.Path.{_≡_, refl, ap, _∙_}
 use borrow.Author.Needs.{needs}
-use Rattle.overlap.specs.declared.Verdict.{Verdict}
-use Rattle.overlap.specs.declared.Verdict.the-variants.{Disjoint, Overlap, Unknown}
-use Rattle.overlap.specs.declared.Found.{Found}
-use Rattle.overlap.specs.Search.{found}
+use Rattle.patterns.specs.declared.Verdict.{Verdict}
+use Rattle.patterns.specs.declared.Verdict.the-variants.{Disjoint, Overlap, Unknown}
+use Rattle.patterns.specs.declared.Found.{Found}
+use Rattle.patterns.specs.Search.{found}
 use Rattle.overlap.specs.Steps.{behind, behindVerdict}
 use Rattle.overlap.proofs.behind_verdict.Statement.{statement}
 use Rattle.overlap.proofs.behind_verdict.Tie as tie

@@ -1,5 +1,5 @@
 -- `overlap::literal_overlap` meets its contract.
-use Rattle.overlap.specs.Search.{literalOverlap}
+use Rattle.patterns.specs.Search.{literalOverlap}
 use Rattle.overlap.proofs.literal_overlap.Statement.{statement}
 use Rattle.overlap.proofs.literal_overlap.Tie as tie
 

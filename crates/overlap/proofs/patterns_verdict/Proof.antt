@@ -1,8 +1,8 @@
 -- `overlap::patterns_verdict` meets its contract: the patterns are tails of the body.
 use native.Mathlib.Omega.{arith}
 use mathlib.Core.Path.{refl, ap, _∙_}
-use Rattle.overlap.specs.declared.Found.{Found}
-use Rattle.overlap.specs.Search.{patternsOverlap}
+use Rattle.patterns.specs.declared.Found.{Found}
+use Rattle.patterns.specs.Search.{patternsOverlap}
 use Rattle.overlap.specs.Parts.{PatternIn}
 use Rattle.overlap.specs.Memory.{Lends}
 use Rattle.overlap.proofs.Readings.{part, inside, at-part, pattern-at}

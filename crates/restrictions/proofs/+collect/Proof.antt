@@ -5,7 +5,7 @@ use mathlib.Core.Path.{refl}
 use lib.ListN.{length, drop}
 use borrow.Fn.Kinds.{In}
 use borrow.Fn.PlainCycle.{Measures, is, falls, and}
-use Rattle.image.specs.Limits.{Mode}
+use Rattle.program.specs.Limits.{Mode}
 use Rattle.image.proofs.part.conditions_start.Reads as conditions-start-reads
 use Rattle.image.proofs.part.result_start.Reads as result-start-reads
 use Rattle.image.proofs.part.term_len.Reads as term-len-reads

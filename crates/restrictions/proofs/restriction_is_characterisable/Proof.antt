@@ -3,7 +3,7 @@ use Prim.Native.Nat.{_+_, _-_, _<_, _≤_}
 use native.Mathlib.Omega.{arith}
 use mathlib.Core.Path.{sym}
 use lib.ListN.{length}
-use Rattle.image.specs.Limits.{Mode}
+use Rattle.program.specs.Limits.{Mode}
 use Rattle.image.specs.Parts.{TermsAt}
 use Rattle.overlap.proofs.Readings.{part-length}
 use Rattle.restrictions.proofs.Within.{Within, within-first, within-terms, within-room, within-call, within-block, within-bracket, bracket-fits, within-last, within-close, within-flat, flat-fits}

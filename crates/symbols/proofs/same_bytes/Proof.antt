@@ -3,8 +3,8 @@ use Prim.Native.Nat.{_≤_, _-_}
 use native.Mathlib.Omega.{arith}
 use mathlib.Core.Path.{_≡_, refl, sym, _∙_}
 use lib.ListN.{length, drop}
-use Rattle.symbols.specs.Names.{eqBytes}
-use Rattle.symbols.proofs.Equal.{bytes-next, bytes-differ, bytes-end, bytes-lengths}
+use Rattle.patterns.specs.Names.{eqBytes}
+use Rattle.patterns.proofs.Equal.{bytes-next, bytes-differ, bytes-end, bytes-lengths}
 use Rattle.symbols.proofs.same_bytes.Statement.{statement}
 use Rattle.symbols.proofs.same_bytes.Tie as tie
 

@@ -3,8 +3,8 @@ use Prim.Native.Nat.{_≤_, _-_}
 use native.Mathlib.Omega.{arith}
 use mathlib.Core.Path.{_≡_, refl, sym, _∙_}
 use lib.ListN.{length, drop}
-use Rattle.symbols.specs.Names.{caseless, eqBytes, sameName}
-use Rattle.symbols.proofs.Equal.{name-next, name-differs, name-end, name-lengths}
+use Rattle.patterns.specs.Names.{caseless, eqBytes, sameName}
+use Rattle.patterns.proofs.Equal.{name-next, name-differs, name-end, name-lengths}
 use Rattle.symbols.proofs.same_name.Statement.{statement}
 use Rattle.symbols.proofs.same_name.Tie as tie
 

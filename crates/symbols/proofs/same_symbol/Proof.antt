@@ -2,7 +2,7 @@
 use borrow.Author.Needs.{needs}
 use native.Mathlib.Omega.{arith}
 use mathlib.Core.Path.{sym, ap₂, _∙_}
-use Rattle.symbols.specs.Names.{eqBytes, sameName}
+use Rattle.patterns.specs.Names.{eqBytes, sameName}
 use Rattle.symbols.proofs.Parts.{part-rest, symbol-room, two-sorts, code-at, codes-compared, identifier-at, number-at, named-at, identifiers-compared, numbers-compared}
 use Rattle.symbols.proofs.same_symbol.Statement.{statement}
 use Rattle.symbols.proofs.same_symbol.Tie as tie

@@ -1,7 +1,7 @@
 -- `symbols::small` meets its contract.
 use borrow.Author.Needs.{needs}
 use borrow.Author.Tests.{le-leb, lt-leb}
-use Rattle.symbols.specs.Names.{lower}
+use Rattle.patterns.specs.Names.{lower}
 use Rattle.symbols.proofs.small.Statement.{statement}
 use Rattle.symbols.proofs.small.Tie as tie
 

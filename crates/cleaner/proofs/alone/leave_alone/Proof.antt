@@ -3,13 +3,13 @@ use native.Mathlib.Omega.{arith}
 use mathlib.Core.Path.{refl, sym, ap, subst, _∙_}
 use mathlib.Core.List.{_++_}
 use lib.ListN.{length}
-use Rattle.image.proofs.Loop.{bytes-of}
-use Rattle.cleaning.specs.ToldReport.{unchangedReport}
-use Rattle.cleaning.proofs.ToldReport.{dynamic-report}
-use Rattle.report.specs.Report.{formatCleanReport}
-use Rattle.cleaner.specs.declared.CleanAnswer.{CleanAnswer}
+use Rattle.program.proofs.Numbers.{bytes-of}
+use Rattle.told.specs.ToldReport.{unchangedReport}
+use Rattle.told.proofs.ToldReport.{dynamic-report}
+use Rattle.meaning.specs.Report.{formatCleanReport}
+use Rattle.answers.specs.declared.CleanAnswer.{CleanAnswer}
 use Rattle.cleaner.specs.Writing.{Wrote}
-use Rattle.lines.proofs.Short.{unchanged-short}
+use Rattle.report.proofs.Short.{unchanged-short}
 use Rattle.cleaner.proofs.Wrote.{wrote-nothing, wrote-all, emitted-none, emitted-whole, pasted-whole, same-image, whole-length, whole-fits}
 use borrow.Author.Needs.{needs}
 use Rattle.cleaner.proofs.alone.leave_alone.Statement.{statement}

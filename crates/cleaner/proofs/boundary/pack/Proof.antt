@@ -1,6 +1,6 @@
 -- `cleaner::boundary::pack` meets its contract. Assumes nothing.
 use mathlib.Core.Path.{refl}
-use Rattle.cleaner.specs.Packed.{packed}
+use Rattle.answers.specs.Packed.{packed}
 use borrow.Author.Needs.{needs}
 use Rattle.cleaner.proofs.boundary.pack.Statement.{statement}
 use Rattle.cleaner.proofs.boundary.pack.Tie as tie

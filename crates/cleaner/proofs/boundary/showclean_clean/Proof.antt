@@ -1,6 +1,6 @@
 -- `cleaner::boundary::showclean_clean` meets its contract. Assumes nothing.
 use mathlib.Core.Path.{_∙_, subst}
-use Rattle.cleaner.specs.Packed.{CleanFits}
+use Rattle.answers.specs.Packed.{CleanFits}
 use Rattle.cleaner.proofs.Packing.{cleaned-fits, refusal-fits, cleaned-packed, refusal-packed}
 use borrow.Author.Needs.{needs}
 use Rattle.cleaner.proofs.boundary.showclean_clean.Statement.{statement}

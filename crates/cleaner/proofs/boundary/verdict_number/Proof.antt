@@ -1,5 +1,5 @@
 -- `cleaner::boundary::verdict_number` meets its contract. Assumes nothing.
-use Rattle.cleaner.specs.Answers.{verdictNumber}
+use Rattle.answers.specs.Answers.{verdictNumber}
 use borrow.Author.Needs.{needs}
 use Rattle.cleaner.proofs.boundary.verdict_number.Statement.{statement}
 use Rattle.cleaner.proofs.boundary.verdict_number.Tie as tie

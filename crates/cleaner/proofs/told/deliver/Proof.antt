@@ -5,12 +5,12 @@ use mathlib.Core.Path.{refl, sym, ap, subst, _∙_}
 use mathlib.Core.List.{_++_}
 use lib.ListN.{length}
 use lib.Seq.{length-take-le}
-use Rattle.image.proofs.Loop.{bytes-of}
+use Rattle.program.proofs.Numbers.{bytes-of}
 use Rattle.image.proofs.Accepted.{accepted-long}
 use Rattle.cleaning.proofs.Room.{used-then}
-use Rattle.lines.proofs.Short.{report-short}
-use Rattle.lines.proofs.RoomUsed.{used-reporting}
-use Rattle.cleaner.specs.declared.CleanAnswer.{CleanAnswer}
+use Rattle.report.proofs.Short.{report-short}
+use Rattle.report.proofs.RoomUsed.{used-reporting}
+use Rattle.answers.specs.declared.CleanAnswer.{CleanAnswer}
 use Rattle.cleaner.specs.Writing.{Wrote}
 use Rattle.cleaner.proofs.Wrote.{wrote-nothing, wrote-all, emitted-whole, whole-length, whole-fits}
 use Rattle.cleaner.proofs.Delivered.{none-from, image-told, text-told, after-told, after-few, sentences-few, still, written-as, marks-are, marks-used, emitted-used}

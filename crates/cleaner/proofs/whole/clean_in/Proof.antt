@@ -2,10 +2,10 @@
 use native.Mathlib.Omega.{arith}
 use mathlib.Core.Path.{sym, _∙_}
 use lib.Seq.{length-take-le}
-use Rattle.image.proofs.Loop.{bytes-of}
+use Rattle.program.proofs.Numbers.{bytes-of}
 use Rattle.image.proofs.Accepted.{accepted-long}
-use Rattle.restrictions.proofs.Numbered.{own-counted}
-use Rattle.cleaning.specs.Indexed.{sitesOf}
+use Rattle.program.proofs.Own.{own-counted}
+use Rattle.told.specs.Numbered.{sitesOf}
 use Rattle.cleaner.proofs.Start.{body-of, some-program, dispatch-is, sites-at, some-sites, sites-fit, listed-small, delivered}
 use borrow.Author.Needs.{needs}
 use Rattle.cleaner.proofs.whole.clean_in.Statement.{statement}

@@ -2,10 +2,10 @@
 use Prim.Native.Nat.{ℕ, _+_, _-_, _≤_}
 use native.Mathlib.Omega.{arith}
 use mathlib.Core.Path.{_≡_, sym, subst}
-use Rattle.image.specs.Syntax.{Program}
+use Rattle.program.specs.Syntax.{Program}
 use Rattle.index.specs.Lists.{ListAt}
 use Rattle.index.proofs.First.{Element, element-at}
-use Rattle.cleaning.specs.Indexed.{sitesOf}
+use Rattle.told.specs.Numbered.{sitesOf}
 use Rattle.cleaning.specs.Prepared.{Chains, ClassesWritten}
 use Rattle.cleaning.proofs.Classes.{chains-list, classes-next, classes-none}
 use Rattle.cleaning.proofs.prepare.class_sites.Statement.{statement}

@@ -3,7 +3,7 @@ use Prim.Native.Nat.{_+_}
 use native.Mathlib.Omega.{arith}
 use lib.ListN.{length}
 use borrow.Author.Needs.{needs}
-use Rattle.cleaning.specs.Indexed.{sitesOf}
+use Rattle.told.specs.Numbered.{sitesOf}
 use Rattle.cleaning.proofs.LinkedLists.{room-left, tabled-filled, indexed-cleared, filed-cleared, columns-cleared, indexed-linked, filed-linked, small-linked, lists-kept, chains-linked}
 use Rattle.cleaning.proofs.prepare.link_lists.Statement.{statement}
 use Rattle.cleaning.proofs.prepare.link_lists.Tie as tie

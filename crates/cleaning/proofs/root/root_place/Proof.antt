@@ -4,8 +4,8 @@ use native.Mathlib.Omega.{arith}
 use mathlib.Core.Path.{_≡_, refl, sym, ap, _∙_}
 use mathlib.Core.List.{List}
 use lib.ListN.{length, getD}
-use Rattle.image.specs.Syntax.{Function}
-use Rattle.image.specs.Encode.{visibilityByte}
+use Rattle.program.specs.Syntax.{Function}
+use Rattle.program.specs.Encode.{visibilityByte}
 use Rattle.index.specs.Tabled.{Tabled}
 use Rattle.index.proofs.Entries.{Element, tabled-entry, tabled-there, tabled-stands}
 use Rattle.cleaning.proofs.EntryPlace.{entry-byte, local-byte, LocalTo, local-next, root-found, root-none}

@@ -5,8 +5,8 @@ use mathlib.Core.Path.{_≡_, sym, ap, _∙_}
 use mathlib.Core.List.{List}
 use borrow.Author.Tests.{not-true, not-false}
 use lib.ListN.{length}
-use Rattle.image.specs.Syntax.{Program}
-use Rattle.index.specs.Tables.{sentencesBefore}
+use Rattle.program.specs.Syntax.{Program}
+use Rattle.told.specs.Numbered.{sentencesBefore}
 use Rattle.index.proofs.First.{Element, element-at}
 use Rattle.cleaning.specs.Indexed.{Indexed, SomeBody}
 use Rattle.cleaning.specs.RoundDone.{RoundReady, RoundAt}

@@ -2,7 +2,7 @@
 use Prim.Native.Nat.{ℕ, suc, _+_, _-_, _≤_}
 use native.Mathlib.Omega.{arith}
 use mathlib.Core.Path.{_≡_, subst}
-use Rattle.image.specs.Syntax.{Program}
+use Rattle.program.specs.Syntax.{Program}
 use Rattle.cleaning.specs.Room.{Remembering}
 use Rattle.cleaning.specs.RoundDone.{RoundReady, RoundAt}
 use Rattle.cleaning.proofs.RoundCode.{round-start, round-made}

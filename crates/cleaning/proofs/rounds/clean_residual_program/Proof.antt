@@ -3,8 +3,8 @@ use Prim.Native.Nat.{ℕ, suc, _+_, _-_, _<_, _≤_}
 use native.Mathlib.Omega.{arith}
 use mathlib.Core.Path.{_≡_, subst, _∙_}
 use mathlib.Core.Bool.{Bool, true, false}
-use Rattle.image.specs.Syntax.{Program}
-use Rattle.restrictions.proofs.Numbered.{own-counted}
+use Rattle.program.specs.Syntax.{Program}
+use Rattle.program.proofs.Own.{own-counted}
 use Rattle.cleaning.specs.Room.{Remembering}
 use Rattle.cleaning.specs.RoundDone.{RoundMade, RoundsReady}
 use Rattle.cleaning.proofs.AllRounds.{RoundsAt, rounds-start, rounds-fewer, rounds-next, rounds-end}

@@ -6,11 +6,11 @@ use mathlib.Core.Bool.{Bool, false}
 use mathlib.Core.List.{List}
 use mathlib.Core.Option.{some}
 use lib.ListN.{length, getElem?}
-use Rattle.image.specs.Syntax.{Function, Program}
+use Rattle.program.specs.Syntax.{Function, Program}
 use Rattle.index.specs.declared.Plan.{Plan}
 use Rattle.index.specs.Layout.{witnesses}
-use Rattle.index.specs.Tables.{sentencesBefore}
-use Rattle.cleaning.specs.History.{isThere}
+use Rattle.told.specs.Numbered.{sentencesBefore}
+use Rattle.told.specs.History.{isThere}
 use Rattle.cleaning.specs.Indexed.{Indexed, fellOf}
 use Rattle.cleaning.specs.Room.{Remembering}
 use Rattle.cleaning.specs.Walks.{ColumnsApart, Witnessed}

@@ -3,10 +3,10 @@ use Prim.Native.Nat.{ℕ, _+_}
 use native.Mathlib.Omega.{arith}
 use mathlib.Core.Path.{sym, _∙_}
 use mathlib.Core.Bool.{Bool}
-use Rattle.image.specs.Parts.{ownSentences}
+use Rattle.program.specs.Sentences.{ownSentences}
 use Rattle.index.specs.Layout.{witnesses}
 use Rattle.index.proofs.First.{element-below}
-use Rattle.cleaning.specs.History.{isThere}
+use Rattle.told.specs.History.{isThere}
 use Rattle.cleaning.specs.Indexed.{fellOf}
 use Rattle.cleaning.proofs.Judging.{judged-gone, judged-met, judged-unmet}
 use Rattle.cleaning.proofs.Room.{no-column}

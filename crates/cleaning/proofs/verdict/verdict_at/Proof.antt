@@ -5,15 +5,15 @@ use mathlib.Core.Path.{_≡_}
 use mathlib.Core.Bool.{true}
 use mathlib.Core.Option.{some}
 use lib.ListN.{getD, getElem?, drop}
-use Rattle.image.specs.Limits.{Mode}
+use Rattle.program.specs.Limits.{Mode}
 use Rattle.image.specs.Parts.{TermsAt}
-use Rattle.image.specs.Syntax.{Function, Program}
-use Rattle.restrictions.specs.Entries.{Held}
+use Rattle.program.specs.Syntax.{Function, Program}
+use Rattle.told.specs.Numbered.{Held, sitesOf}
 use Rattle.index.specs.Layout.{heads, room}
 use Rattle.index.specs.Links.{listHead}
 use Rattle.index.specs.Lists.{ListAt, Among}
 use Rattle.index.proofs.Alike.{call-of, reading-of}
-use Rattle.cleaning.specs.Indexed.{sitesOf, Indexed}
+use Rattle.cleaning.specs.Indexed.{Indexed}
 use Rattle.cleaning.proofs.Meeting.{list-at, site-below, from-part, verdict-is}
 use Rattle.cleaning.proofs.Room.{part-lent, used-from-part}
 use borrow.Author.Needs.{needs}

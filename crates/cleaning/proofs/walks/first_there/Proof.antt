@@ -5,13 +5,13 @@ use mathlib.Core.Path.{_≡_, sym, ap, _∙_}
 use mathlib.Core.Bool.{Bool}
 use mathlib.Core.List.{List}
 use lib.ListN.{length, getD}
-use Rattle.image.specs.Syntax.{Name}
-use Rattle.restrictions.specs.Entries.{Held}
+use Rattle.program.specs.Syntax.{Name}
+use Rattle.told.specs.Numbered.{Held}
 use Rattle.index.specs.Layout.{links}
 use Rattle.index.specs.First.{First}
-use Rattle.index.specs.Calls.{isListed}
+use Rattle.told.specs.Calls.{isListed}
 use Rattle.index.specs.Links.{entryNext}
-use Rattle.cleaning.specs.History.{isThere}
+use Rattle.told.specs.History.{isThere}
 use Rattle.cleaning.specs.Indexed.{fellOf}
 use Rattle.cleaning.specs.Walks.{Walkable, isThereListed}
 use Rattle.cleaning.proofs.Walking.{Going, there-first, there-end, there-below, there-found, there-next}

@@ -7,11 +7,12 @@ use mathlib.Core.List.{List}
 use mathlib.Core.Option.{some}
 use lib.Dec.{ltb}
 use lib.ListN.{length, getElem?}
-use Rattle.image.specs.Syntax.{Function, Program}
+use Rattle.program.specs.Syntax.{Function, Program}
 use Rattle.index.specs.First.{First}
 use Rattle.index.proofs.First.{Element, element-at}
-use Rattle.cleaning.specs.History.{isThere}
-use Rattle.cleaning.specs.Indexed.{sitesOf, Indexed, fellOf}
+use Rattle.told.specs.History.{isThere}
+use Rattle.told.specs.Numbered.{sitesOf}
+use Rattle.cleaning.specs.Indexed.{Indexed, fellOf}
 use Rattle.cleaning.specs.Walks.{isThereListed}
 use Rattle.cleaning.proofs.Indexed.{indexed-walkable}
 use Rattle.cleaning.proofs.Walking.{head-first, walk-from, judged-open, judged-plain}

@@ -6,7 +6,7 @@ use mathlib.Core.Bool.{Bool, true, false, not}
 use lib.ListN.{getD}
 use Rattle.index.specs.Layout.{links}
 use Rattle.index.specs.Links.{entryClass}
-use Rattle.cleaning.specs.History.{isThere}
+use Rattle.told.specs.History.{isThere}
 use Rattle.cleaning.specs.Indexed.{fellOf}
 use Rattle.cleaning.proofs.Meeting.{not-is, met-by, site-below, sentence-below, met-gone, met-repeat, met-asked}
 use Rattle.cleaning.proofs.Room.{used-same}

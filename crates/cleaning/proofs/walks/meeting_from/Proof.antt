@@ -5,15 +5,16 @@ use mathlib.Core.Path.{_≡_, ap, subst, _∙_}
 use mathlib.Core.Bool.{Bool, true}
 use mathlib.Core.Option.{some}
 use lib.ListN.{getD, getElem?, drop}
-use Rattle.image.specs.Limits.{Mode}
+use Rattle.program.specs.Limits.{Mode}
 use Rattle.image.specs.Parts.{TermsAt}
-use Rattle.image.specs.Syntax.{Function, Program}
+use Rattle.program.specs.Syntax.{Function, Program}
 use Rattle.index.specs.Layout.{links}
-use Rattle.index.specs.Calls.{isListed}
+use Rattle.told.specs.Calls.{isListed}
 use Rattle.index.specs.Links.{entryNext}
-use Rattle.cleaning.specs.Asked.{meets}
-use Rattle.cleaning.specs.History.{isThere}
-use Rattle.cleaning.specs.Indexed.{sitesOf, Indexed, fellOf}
+use Rattle.told.specs.Asked.{meets}
+use Rattle.told.specs.History.{isThere}
+use Rattle.told.specs.Numbered.{sitesOf}
+use Rattle.cleaning.specs.Indexed.{Indexed, fellOf}
 use Rattle.cleaning.specs.Room.{Used}
 use Rattle.cleaning.specs.Walks.{OnList, NoneMet, MetAt}
 use Rattle.cleaning.proofs.Walking.{Going}

@@ -5,7 +5,7 @@ use mathlib.Core.Path.{_≡_, ap, _∙_}
 use lib.ListN.{getD}
 use Rattle.restrictions.specs.Entries.{entrySentence}
 use Rattle.index.specs.Layout.{calls}
-use Rattle.cleaning.specs.History.{isThere}
+use Rattle.told.specs.History.{isThere}
 use Rattle.cleaning.specs.Indexed.{fellOf}
 use borrow.Author.Needs.{needs}
 use Rattle.cleaning.proofs.walks.site_there.Statement.{statement}

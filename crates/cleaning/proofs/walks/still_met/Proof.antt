@@ -8,16 +8,18 @@ use borrow.Author.Tests.{lt-ltb, le-ltb}
 use lib.Dec.{ltb}
 use lib.ListN.{length, getD, set, getElem?, drop}
 use lib.Seq.{getD-set-same}
-use Rattle.image.specs.Limits.{Mode}
-use Rattle.image.specs.Parts.{TermsAt, Sentence, ownSentences}
-use Rattle.image.specs.Syntax.{Function, Program}
+use Rattle.program.specs.Limits.{Mode}
+use Rattle.image.specs.Parts.{TermsAt}
+use Rattle.program.specs.Sentences.{Sentence, ownSentences}
+use Rattle.program.specs.Syntax.{Function, Program}
 use Rattle.index.specs.First.{First}
 use Rattle.index.specs.Layout.{heads, witnesses, room}
 use Rattle.index.specs.Links.{listHead}
 use Rattle.index.proofs.First.{element-below}
-use Rattle.cleaning.specs.Asked.{meets}
-use Rattle.cleaning.specs.History.{isThere}
-use Rattle.cleaning.specs.Indexed.{sitesOf, Indexed, fellOf}
+use Rattle.told.specs.Asked.{meets}
+use Rattle.told.specs.History.{isThere}
+use Rattle.told.specs.Numbered.{sitesOf}
+use Rattle.cleaning.specs.Indexed.{Indexed, fellOf}
 use Rattle.cleaning.specs.Walks.{OnList, NoneMet, Owns, WitnessOf, witnessFrom, StillMet}
 use Rattle.cleaning.proofs.Meeting.{number-is, site-element, sentence-below}
 use Rattle.cleaning.proofs.Room.{used-same, remembering-set, one-column, no-column}

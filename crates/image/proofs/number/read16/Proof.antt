@@ -1,6 +1,6 @@
 -- `image::number::read16` meets its contract. Assumes nothing.
 use borrow.Author.Needs.{needs}
-use Rattle.image.specs.Bytes.{get16}
+use Rattle.program.specs.Bytes.{get16}
 use native.Mathlib.Omega.{arith}
 use Rattle.image.proofs.number.read16.Statement.{statement}
 use Rattle.image.proofs.number.read16.Tie as tie

@@ -1,6 +1,6 @@
 -- `image::number::read32` meets its contract. Assumes nothing.
 use borrow.Author.Needs.{needs}
-use Rattle.image.specs.Bytes.{get32}
+use Rattle.program.specs.Bytes.{get32}
 use native.Mathlib.Omega.{arith}
 use Rattle.image.proofs.number.read32.Statement.{statement}
 use Rattle.image.proofs.number.read32.Tie as tie

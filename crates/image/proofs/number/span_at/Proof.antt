@@ -1,5 +1,5 @@
 -- `image::number::span_at` meets its contract. Assumes nothing.
-use Rattle.image.specs.Bytes.{getSpan}
+use Rattle.program.specs.Bytes.{getSpan}
 use borrow.Author.Needs.{needs}
 use Rattle.image.proofs.number.span_at.Statement.{statement}
 use Rattle.image.proofs.number.span_at.Tie as tie

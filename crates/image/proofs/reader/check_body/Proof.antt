@@ -5,7 +5,8 @@ use denote.Ref.{now}
 use mathlib.Core.Path.{refl}
 use Prim.Native.Nat.{_+_, _-_, _≤_}
 use lib.ListN.{length}
-use Rattle.image.proofs.Loop.{StateOf, state-first, bytes-of, loop-over, loop-end, loop-bad, loop-on, loop-next}
+use Rattle.image.proofs.Loop.{StateOf, state-first, loop-over, loop-end, loop-bad, loop-on, loop-next}
+use Rattle.program.proofs.Numbers.{bytes-of}
 use Rattle.image.proofs.reader.check_body.Statement.{statement}
 use Rattle.image.proofs.reader.check_body.Tie as tie
 

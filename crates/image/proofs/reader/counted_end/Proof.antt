@@ -4,7 +4,7 @@ use native.Mathlib.Omega.{arith}
 use denote.Ref.{now}
 use Prim.Native.Nat.{_<_}
 use lib.ListN.{length}
-use Rattle.image.specs.Automaton.{Stack}
+use Rattle.program.specs.Automaton.{Stack}
 use Rattle.image.specs.Tally.{Alike}
 use Rattle.image.proofs.Flat.{no-end, namesOn, counted-first, names-next, counted-done}
 use Rattle.image.proofs.reader.counted_end.Statement.{statement}

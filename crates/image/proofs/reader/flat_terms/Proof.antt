@@ -5,8 +5,8 @@ use denote.Ref.{now}
 use Prim.Native.Nat.{ℕ, _-_, _≤_, _<_}
 use mathlib.Core.Path.{refl}
 use lib.ListN.{length}
-use Rattle.image.specs.Limits.{Mode}
-use Rattle.image.specs.Automaton.{Stack}
+use Rattle.program.specs.Limits.{Mode}
+use Rattle.program.specs.Automaton.{Stack}
 use Rattle.image.specs.Tally.{Alike, Ends}
 use Rattle.image.proofs.Flat.{alike-self, alike-then}
 use Rattle.image.proofs.reader.flat_terms.Statement.{statement}

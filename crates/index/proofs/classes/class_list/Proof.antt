@@ -3,8 +3,8 @@ use Prim.Native.Nat.{_+_, _-_, _≤_, _<_}
 use native.Mathlib.Omega.{arith}
 use mathlib.Core.List.{List}
 use lib.ListN.{length}
-use Rattle.image.specs.Syntax.{Name}
-use Rattle.restrictions.specs.Entries.{Held}
+use Rattle.program.specs.Syntax.{Name}
+use Rattle.told.specs.Numbered.{Held}
 use Rattle.index.specs.First.{First}
 use Rattle.index.specs.Links.{isRepeat}
 use Rattle.index.specs.Lists.{ListAt}

@@ -4,9 +4,9 @@ use native.Mathlib.Omega.{arith}
 use mathlib.Core.Path.{_≡_, sym, _∙_}
 use mathlib.Core.List.{List}
 use lib.ListN.{length}
-use Rattle.image.specs.Syntax.{Name}
-use Rattle.configuration.specs.Configuration.{sameConfiguration}
-use Rattle.restrictions.specs.Entries.{Held}
+use Rattle.program.specs.Syntax.{Name}
+use Rattle.patterns.specs.Configuration.{sameConfiguration}
+use Rattle.told.specs.Numbered.{Held}
 use Rattle.index.specs.Lists.{ListAt, Among}
 use Rattle.index.proofs.Alike.{Alike, among-below, call-of, reading-of, repeat-same, alike-first, alike-next, alike-found, alike-end}
 use Rattle.index.proofs.classes.first_alike.Statement.{statement}

@@ -3,7 +3,7 @@ use Prim.Native.Nat.{_+_, _%_, _≤_, _<_}
 use native.Mathlib.Omega.{arith}
 use borrow.Author.Needs.{needs}
 use lib.ListN.{length}
-use Rattle.image.specs.Encode.{putTerms}
+use Rattle.program.specs.Encode.{putTerms}
 use Rattle.index.proofs.Arguments.{call-within, part-call, argument-within, argument-left}
 use Rattle.index.proofs.classes.site_argument.Statement.{statement}
 use Rattle.index.proofs.classes.site_argument.Tie as tie

@@ -1,7 +1,7 @@
 -- `index::dispatch::call_activates` meets its contract. Assumes nothing.
 use native.Mathlib.Omega.{arith}
 use mathlib.Core.Path.{ap, _∙_}
-use Rattle.restrictions.specs.Dispatch.{activatesACarriedCall}
+use Rattle.meaning.specs.Dispatch.{activatesACarriedCall}
 use Rattle.index.proofs.Sites.{call-within, call-part}
 use borrow.Author.Needs.{needs}
 use Rattle.index.proofs.dispatch.call_activates.Statement.{statement}

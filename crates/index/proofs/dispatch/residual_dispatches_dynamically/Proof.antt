@@ -5,9 +5,9 @@ use mathlib.Core.Path.{_≡_, refl, sym, ap, _∙_}
 use mathlib.Core.Bool.{Bool}
 use mathlib.Core.List.{List}
 use lib.ListN.{length, drop}
-use Rattle.restrictions.specs.Lists.{any}
-use Rattle.restrictions.specs.Dispatch.{activatesACarriedCall}
-use Rattle.restrictions.specs.Entries.{Held}
+use Rattle.meaning.specs.Lists.{any}
+use Rattle.meaning.specs.Dispatch.{activatesACarriedCall}
+use Rattle.told.specs.Numbered.{Held}
 use Rattle.index.specs.Tables.{SitesAt}
 use Rattle.index.proofs.Entries.{Element, element-of}
 use Rattle.index.proofs.Sites.{call-there}

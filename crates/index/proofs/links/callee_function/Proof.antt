@@ -1,7 +1,7 @@
 -- `index::links::callee_function` meets its contract. Assumes nothing.
 use native.Mathlib.Omega.{arith}
 use mathlib.Core.Path.{subst}
-use Rattle.image.specs.Syntax.{Name}
+use Rattle.program.specs.Syntax.{Name}
 use Rattle.index.specs.First.{First}
 use Rattle.index.specs.Bucket.{isNamed}
 use Rattle.index.proofs.Sites.{call-within, call-part}

@@ -3,8 +3,8 @@ use Prim.Native.Nat.{_+_, _-_, _≤_}
 use native.Mathlib.Omega.{arith}
 use mathlib.Core.Path.{_≡_, subst}
 use mathlib.Core.List.{List}
-use Rattle.image.specs.Syntax.{Function}
-use Rattle.restrictions.specs.Entries.{Held}
+use Rattle.program.specs.Syntax.{Function}
+use Rattle.told.specs.Numbered.{Held}
 use Rattle.index.specs.Links.{FirstsHeaded, Chained}
 use Rattle.index.specs.Linking.{Indexed, LinksOnly}
 use Rattle.index.proofs.Linked.{firsts-none, chained-none}

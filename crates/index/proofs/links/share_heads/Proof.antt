@@ -4,9 +4,9 @@ use native.Mathlib.Omega.{arith}
 use mathlib.Core.Path.{_≡_, refl, subst}
 use mathlib.Core.List.{List}
 use lib.ListN.{length, getD, drop}
-use Rattle.image.specs.Syntax.{Name, Function}
+use Rattle.program.specs.Syntax.{Name, Function}
 use Rattle.image.specs.Parts.{FunctionAt}
-use Rattle.restrictions.specs.Entries.{Held}
+use Rattle.told.specs.Numbered.{Held}
 use Rattle.index.specs.First.{First}
 use Rattle.index.specs.Tables.{Apart}
 use Rattle.index.specs.Tabled.{Tabled}

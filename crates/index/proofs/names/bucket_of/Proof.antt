@@ -4,7 +4,7 @@ use native.Mathlib.Omega.{arith}
 use native.Mathlib.Nat.{mod-lt}
 use mathlib.Core.Path.{_≡_, refl, sym, ap, _∙_}
 use lib.ListN.{length, drop}
-use Rattle.symbols.specs.Names.{caseless}
+use Rattle.patterns.specs.Names.{caseless}
 use Rattle.index.specs.Bucket.{hashFrom}
 use Rattle.index.proofs.Buckets.{hash-next, hash-end, bucket-is}
 use Rattle.index.proofs.names.bucket_of.Statement.{statement}

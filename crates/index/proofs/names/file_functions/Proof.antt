@@ -4,7 +4,7 @@ use native.Mathlib.Omega.{arith}
 use mathlib.Core.Path.{_≡_, ap, subst, _∙_}
 use mathlib.Core.List.{List}
 use lib.ListN.{length, getD, drop, length-set}
-use Rattle.image.specs.Syntax.{Function}
+use Rattle.program.specs.Syntax.{Function}
 use Rattle.image.specs.Parts.{FunctionAt}
 use Rattle.index.specs.Tables.{Apart}
 use Rattle.index.specs.Tabled.{Tabled}

@@ -4,9 +4,9 @@ use native.Mathlib.Omega.{arith}
 use mathlib.Core.Path.{_≡_, refl, sym, ap, _∙_}
 use mathlib.Core.List.{List}
 use lib.ListN.{length, getD, drop}
-use Rattle.image.specs.Syntax.{Name, Function}
+use Rattle.program.specs.Syntax.{Name, Function}
 use Rattle.image.specs.Parts.{FunctionAt}
-use Rattle.symbols.specs.Names.{sameName}
+use Rattle.patterns.specs.Names.{sameName}
 use Rattle.index.specs.Tabled.{Tabled}
 use Rattle.index.specs.Bucket.{isNamed, Filed}
 use Rattle.index.proofs.Entries.{tabled-there, tabled-stands, tabled-name}

@@ -4,7 +4,7 @@ use mathlib.Core.Path.{_≡_, refl, _∙_}
 use Prim.Native.Nat.{ℕ, _-_, _≤_}
 use Rattle.index.specs.Layout.{marks, calls}
 use Rattle.index.specs.Tables.{Apart}
-use Rattle.cleaning.specs.Kept.{isKept}
+use Rattle.told.specs.Kept.{isKept}
 use Rattle.cleaning.specs.Indexed.{fellOf}
 use Rattle.index.proofs.Entries.{apart-same}
 use Rattle.output.proofs.MarkPart.{marked, marks-apart, apart-then, leftTo, keep-ready, left-start, left-turn, left-done}

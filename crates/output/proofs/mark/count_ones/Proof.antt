@@ -5,7 +5,7 @@ use mathlib.Core.Path.{_≡_, ap, _∙_}
 use Prim.Native.Nat.{ℕ, _*_, _-_, _≤_}
 use native.Mathlib.Nat.{le-antisymm}
 use lib.ListN.{length}
-use Rattle.cleaning.specs.Kept.{isKept}
+use Rattle.told.specs.Kept.{isKept}
 use Rattle.output.specs.Marks.{keptCount}
 use Rattle.output.proofs.Ones.{words-turn, words-end, word-count, count-le, none-yet}
 use Rattle.output.proofs.mark.count_ones.Statement.{statement}

@@ -1,7 +1,7 @@
 -- `output::mark::is_kept` meets its contract. Assumes nothing.
 use denote.Ref.{now}
 use mathlib.Core.Path.{refl, sym}
-use Rattle.cleaning.specs.Kept.{isKept}
+use Rattle.told.specs.Kept.{isKept}
 use Rattle.output.proofs.Marks.{kept-out}
 use borrow.Author.Needs.{needs}
 use Rattle.output.proofs.mark.is_kept.Statement.{statement}

@@ -4,7 +4,7 @@ use mathlib.Core.Path.{_≡_, refl, _∙_}
 use Prim.Native.Nat.{ℕ, _*_, _-_, _≤_, _<_}
 use lib.ListN.{length, length-set}
 use lib.Dec.{ltb}
-use Rattle.cleaning.specs.Kept.{isKept}
+use Rattle.told.specs.Kept.{isKept}
 use Rattle.output.proofs.Marks.{marks-turn, marks-end}
 use Rattle.output.proofs.mark.keep_all.Statement.{statement}
 use Rattle.output.proofs.mark.keep_all.Tie as tie

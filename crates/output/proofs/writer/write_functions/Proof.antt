@@ -1,15 +1,14 @@
 -- `output::writer::write_functions` meets its contract. Assumes nothing.
 use denote.Ref.{now}
 use native.Mathlib.Omega.{arith}
-use mathlib.Core.Path.{_≡_, refl, sym, ap, _∙_}
-use mathlib.Core.Path.{subst}
+use mathlib.Core.Path.{_≡_, refl, sym, ap, _∙_, subst}
 use mathlib.Core.Bool.{Bool}
 use mathlib.Core.List.{List}
 use Prim.Native.Nat.{ℕ, _+_, _-_, _≤_, _<_}
 use lib.ListN.{length, take, drop, length-drop}
 use Rattle.image.specs.Parts.{FunctionsAt, Passes}
 use Rattle.symbols.proofs.Parts.{part-rest}
-use Rattle.cleaning.specs.Kept.{isKept}
+use Rattle.told.specs.Kept.{isKept}
 use Rattle.output.specs.Items.{Item, after}
 use Rattle.output.proofs.Walking.{Writes, Does, writes-start, writes-turn, writes-end, item-here, item-some, item-within, written-le, ones-le}
 use Rattle.output.proofs.writer.write_functions.Statement.{statement}

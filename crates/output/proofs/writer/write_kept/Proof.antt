@@ -6,9 +6,9 @@ use mathlib.Core.Bool.{Bool}
 use mathlib.Core.List.{List}
 use Prim.Native.Nat.{ℕ, _-_}
 use lib.ListN.{length, take}
-use Rattle.image.proofs.Numbers.{Bytes}
-use Rattle.image.proofs.Loop.{bytes-of}
-use Rattle.cleaning.specs.Kept.{isKept}
+use Rattle.program.specs.Bytes.{Bytes}
+use Rattle.program.proofs.Numbers.{bytes-of}
+use Rattle.told.specs.Kept.{isKept}
 use Rattle.output.proofs.Whole.{whole-size, body-size, functions-here, ends-within, functions-few, sentences-few, whole-written}
 use borrow.Author.Needs.{needs}
 use Rattle.output.proofs.writer.write_kept.Statement.{statement}

@@ -2,7 +2,7 @@
 use denote.Ref.{now}
 use mathlib.Core.Path.{sym, _∙_}
 use mathlib.Core.Bool.{true, false}
-use Rattle.cleaning.specs.Kept.{isKept}
+use Rattle.told.specs.Kept.{isKept}
 use Rattle.output.proofs.Items.{own-written, other-written}
 use borrow.Author.Needs.{needs}
 use Rattle.output.proofs.writer.written_len.Statement.{statement}

@@ -3,8 +3,8 @@ use Prim.Native.Nat.{_-_, _/_}
 use mathlib.Core.Path.{ap}
 use borrow.Author.Needs.{needs}
 use borrow.Author.Tests.{lt-ltb, le-ltb}
-use Rattle.overlap.specs.declared.Verdict.{Verdict}
-use Rattle.overlap.specs.Search.{found}
+use Rattle.patterns.specs.declared.Verdict.{Verdict}
+use Rattle.patterns.specs.Search.{found}
 use Rattle.overlap.specs.Memory.{costing}
 use Rattle.overlap.proofs.search.recalled.Statement.{statement}
 use Rattle.overlap.proofs.search.recalled.Tie as tie

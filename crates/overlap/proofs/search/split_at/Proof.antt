@@ -3,9 +3,9 @@ use Prim.Native.Nat.{ℕ, _+_}
 use native.Mathlib.Omega.{arith}
 use mathlib.Core.Path.{ap₂}
 use borrow.Author.Needs.{needs}
-use Rattle.image.specs.Limits.{Mode}
+use Rattle.program.specs.Limits.{Mode}
 use Rattle.image.proofs.Readings.{result-at}
-use Rattle.overlap.specs.declared.Verdict.{Verdict}
+use Rattle.patterns.specs.declared.Verdict.{Verdict}
 use Rattle.overlap.specs.declared.search.Opening.{Opening}
 use Rattle.overlap.proofs.search.split_at.Statement.{statement}
 use Rattle.overlap.proofs.search.split_at.Tie as tie

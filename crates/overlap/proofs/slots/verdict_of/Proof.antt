@@ -2,8 +2,8 @@
 use Prim.Native.Nat.{ℕ}
 use native.Mathlib.Omega.{arith}
 use mathlib.Core.Path.{_≡_, refl}
-use Rattle.overlap.specs.declared.Verdict.{Verdict}
-use Rattle.overlap.specs.declared.Verdict.the-variants.{Disjoint, Overlap, Unknown}
+use Rattle.patterns.specs.declared.Verdict.{Verdict}
+use Rattle.patterns.specs.declared.Verdict.the-variants.{Disjoint, Overlap, Unknown}
 use Rattle.overlap.specs.Memory.{codeOf}
 use Rattle.overlap.proofs.slots.verdict_of.Statement.{statement}
 use Rattle.overlap.proofs.slots.verdict_of.Tie as tie

@@ -3,7 +3,7 @@ use Prim.Native.Nat.{_/_, _%_}
 use mathlib.Core.Path.{sym, ap}
 use mathlib.Core.Bool.{Bool, cond}
 use borrow.Author.Tests.{eq-eqb, ne-eqb}
-use Rattle.overlap.specs.declared.Verdict.the-variants.{Overlap, Unknown}
+use Rattle.patterns.specs.declared.Verdict.the-variants.{Overlap, Unknown}
 use Rattle.overlap.proofs.stack.heads_of.Statement.{statement}
 use Rattle.overlap.proofs.stack.heads_of.Tie as tie
 

@@ -6,7 +6,7 @@ use lib.ListN.{length, getD, set, length-set}
 use lib.Seq.{getD-set-same, getD-set-other}
 use borrow.Author.Needs.{needs}
 use Rattle.overlap.specs.Stack.{restOf, otherOf, headsOf, soFarOf, firstOf, fuelOf}
-use Rattle.overlap.proofs.Verdicts.{disjoint≢overlap}
+use Rattle.patterns.proofs.Verdicts.{disjoint≢overlap}
 use Rattle.overlap.proofs.Memory.{searched-then, entry-written, beginning-written}
 use Rattle.overlap.proofs.stack.push.Statement.{statement}
 use Rattle.overlap.proofs.stack.push.Tie as tie

@@ -3,7 +3,7 @@ use Prim.Native.Nat.{_%_}
 use mathlib.Core.Path.{sym, ap}
 use mathlib.Core.Bool.{Bool, cond}
 use borrow.Author.Tests.{eq-eqb, ne-eqb}
-use Rattle.overlap.specs.declared.Verdict.the-variants.{Disjoint, Unknown}
+use Rattle.patterns.specs.declared.Verdict.the-variants.{Disjoint, Unknown}
 use Rattle.overlap.proofs.stack.so_far_of.Statement.{statement}
 use Rattle.overlap.proofs.stack.so_far_of.Tie as tie
 

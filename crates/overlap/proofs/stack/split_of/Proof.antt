@@ -6,8 +6,8 @@ use mathlib.Core.Bool.{Bool, cond}
 use lib.Dec.{eqb}
 use borrow.Author.Needs.{needs}
 use borrow.Author.Tests.{eq-eqb, ne-eqb}
-use Rattle.overlap.specs.declared.Verdict.{Verdict}
-use Rattle.overlap.specs.declared.Verdict.the-variants.{Disjoint, Overlap, Unknown}
+use Rattle.patterns.specs.declared.Verdict.{Verdict}
+use Rattle.patterns.specs.declared.Verdict.the-variants.{Disjoint, Overlap, Unknown}
 use Rattle.overlap.specs.Stack.{restOf, otherOf, bitOf}
 use Rattle.overlap.proofs.stack.split_of.Statement.{statement}
 use Rattle.overlap.proofs.stack.split_of.Tie as tie

@@ -8,13 +8,13 @@ use mathlib.Core.Logic.{_⊎_, inl, inr, ⊎-elim}
 use lib.ListN.{length, getD, drop, set, length-set}
 use lib.Seq.{getD-set-same, getD-set-other}
 use borrow.Author.Tests.{not-true, not-false}
-use Rattle.image.specs.Limits.{Mode}
-use Rattle.image.specs.Encode.{putTerms}
+use Rattle.program.specs.Limits.{Mode}
+use Rattle.program.specs.Encode.{putTerms}
 use Rattle.image.specs.Parts.{Passes, TermsAt, tail}
-use Rattle.overlap.specs.declared.Verdict.{Verdict}
-use Rattle.overlap.specs.declared.Found.{Found}
+use Rattle.patterns.specs.declared.Verdict.{Verdict}
+use Rattle.patterns.specs.declared.Found.{Found}
 use Rattle.overlap.specs.declared.Room.{Room}
-use Rattle.overlap.specs.Search.{found}
+use Rattle.patterns.specs.Search.{found}
 use Rattle.overlap.specs.Steps.{isOverlap, remembered, behindVerdict, endedBy}
 use Rattle.overlap.specs.Memory.{Lends, Searched}
 use Rattle.overlap.specs.Stack.{restOf, otherOf, headsOf, soFarOf, Closes, Plugs, InTurn}

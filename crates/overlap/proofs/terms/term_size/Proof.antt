@@ -3,7 +3,7 @@ use Prim.Native.Nat.{ℕ, _+_, _*_}
 use native.Mathlib.Omega.{arith}
 use mathlib.Core.Path.{sym, subst}
 use borrow.Author.Needs.{needs}
-use Rattle.image.specs.Limits.{Mode}
+use Rattle.program.specs.Limits.{Mode}
 use Rattle.image.proofs.Readings.{result-at}
 use Rattle.overlap.specs.Parts.{placeOf}
 use Rattle.overlap.specs.Memory.{EndTold, Recalled, tables}

@@ -3,8 +3,8 @@ use Prim.Native.Nat.{ℕ, _+_, _-_, _*_, _<_, _≤_}
 use native.Mathlib.Omega.{arith}
 use mathlib.Core.Path.{_≡_, sym, ap, ap₂, subst, _∙_}
 use borrow.Author.Needs.{needs}
-use Rattle.overlap.specs.declared.Found.{Found}
-use Rattle.overlap.specs.Search.{absorbingSplit, sequence}
+use Rattle.patterns.specs.declared.Found.{Found}
+use Rattle.patterns.specs.Search.{absorbingSplit, sequence}
 use Rattle.overlap.specs.Parts.{placeOf}
 use Rattle.overlap.specs.Memory.{keyOf, costing, SplitTold}
 use Rattle.overlap.proofs.Costs.{split-told, split-spends}

@@ -3,13 +3,13 @@ use Prim.Native.Nat.{ℕ, _+_, _-_, _≤_}
 use native.Mathlib.Omega.{arith}
 use mathlib.Core.Path.{refl, sym, ap, _∙_, subst}
 use lib.ListN.{length}
-use Rattle.image.specs.Limits.{Mode}
+use Rattle.program.specs.Limits.{Mode}
 use Rattle.image.specs.Parts.{TermsAt}
-use Rattle.overlap.specs.declared.Verdict.{Verdict}
-use Rattle.overlap.specs.Search.{found}
+use Rattle.patterns.specs.declared.Verdict.{Verdict}
+use Rattle.patterns.specs.Search.{found}
 use Rattle.overlap.specs.Steps.{behind}
 use Rattle.overlap.specs.Memory.{Searched, Lends}
-use Rattle.overlap.proofs.Verdicts.{disjoint≢overlap}
+use Rattle.patterns.proofs.Verdicts.{disjoint≢overlap}
 use Rattle.overlap.proofs.Readings.{part, part-length, pattern-room, head-in}
 use Rattle.overlap.proofs.Memory.{lends-less, searched-same, searched-then, searched-less, searched-lends}
 use Rattle.overlap.proofs.Turns.{Reached, reached-out, first-closed, second-closed, first-opens, second-opens, heads-apart, heads-passed}

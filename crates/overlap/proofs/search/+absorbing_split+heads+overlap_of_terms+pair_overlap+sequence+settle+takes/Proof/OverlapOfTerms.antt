@@ -3,7 +3,7 @@ use Prim.Native.Nat.{ℕ, _<_}
 use native.Mathlib.Omega.{arith}
 use mathlib.Core.Path.{sym, ap, _∙_}
 use lib.ListN.{length}
-use Rattle.overlap.specs.Search.{literalOverlap, patternsOverlap}
+use Rattle.patterns.specs.Search.{literalOverlap, patternsOverlap}
 use Rattle.overlap.specs.Memory.{Searched}
 use Rattle.overlap.proofs.Readings.{part-length}
 use Rattle.overlap.proofs.Heads.{head-room, inner-in, bracket-at, literal-at, two-brackets, first-bracket-low, first-bracket-high, second-bracket-low, second-bracket-high, first-variable, second-variable, two-literals}

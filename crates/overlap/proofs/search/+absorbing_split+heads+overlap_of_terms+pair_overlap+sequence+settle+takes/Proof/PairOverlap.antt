@@ -2,8 +2,8 @@
 use Prim.Native.Nat.{ℕ}
 use native.Mathlib.Omega.{arith}
 use mathlib.Core.Path.{refl, ap, _∙_}
-use Rattle.overlap.specs.declared.Found.{Found}
-use Rattle.overlap.specs.Search.{patternsOverlap}
+use Rattle.patterns.specs.declared.Found.{Found}
+use Rattle.patterns.specs.Search.{patternsOverlap}
 use Rattle.overlap.proofs.Memory.{lends-less, searched-same, searched-then, searched-less, searched-lends}
 use Rattle.overlap.proofs.search.pair_overlap.Reads as pair-overlap
 use Rattle.overlap.proofs.search.+absorbing_split+heads+overlap_of_terms+pair_overlap+sequence+settle+takes.Lts-pair_overlap as lts

@@ -5,13 +5,13 @@ use mathlib.Core.Path.{_≡_, sym, _∙_, subst}
 use mathlib.Core.List.{List}
 use lib.ListN.{length}
 use borrow.Author.Needs.{needs}
-use Rattle.image.specs.Syntax.{Terms}
-use Rattle.image.specs.Limits.{Mode}
+use Rattle.program.specs.Syntax.{Terms}
+use Rattle.program.specs.Limits.{Mode}
 use Rattle.image.specs.Parts.{TermsAt}
-use Rattle.overlap.specs.declared.Found.{Found}
+use Rattle.patterns.specs.declared.Found.{Found}
 use Rattle.overlap.specs.declared.search.Opening.{Opening}
 use Rattle.overlap.specs.declared.search.Leading.{Leading}
-use Rattle.overlap.specs.Search.{sequence}
+use Rattle.patterns.specs.Search.{sequence}
 use Rattle.overlap.specs.Parts.{behindPlaces}
 use Rattle.overlap.specs.Memory.{Searched}
 use Rattle.overlap.specs.Stack.{Leads, Plugs, plugs-none, Sound, InTurn, Settled, Pushed}

@@ -3,13 +3,13 @@ use Prim.Native.Nat.{ℕ, _-_, _<_, _≤_}
 use native.Mathlib.Omega.{arith}
 use mathlib.Core.Path.{sym, ap, _∙_, subst}
 use lib.ListN.{length}
-use Rattle.image.specs.Limits.{Mode}
+use Rattle.program.specs.Limits.{Mode}
 use Rattle.image.specs.Parts.{TermsAt}
-use Rattle.overlap.specs.declared.Verdict.{Verdict}
-use Rattle.overlap.specs.declared.Found.{Found}
-use Rattle.overlap.specs.Search.{found, sequence}
+use Rattle.patterns.specs.declared.Verdict.{Verdict}
+use Rattle.patterns.specs.declared.Found.{Found}
+use Rattle.patterns.specs.Search.{found, sequence}
 use Rattle.overlap.specs.Memory.{Searched, Lends}
-use Rattle.overlap.proofs.Fuel.{fuel-falls}
+use Rattle.patterns.proofs.Fuel.{fuel-falls}
 use Rattle.overlap.proofs.Readings.{part, part-length, pattern-room, term-long}
 use Rattle.overlap.proofs.Memory.{lends-less, searched-same, searched-then, searched-less, searched-lends}
 use Rattle.overlap.proofs.Turns.{Splitting, splitting-first, split-meets, split-ends, split-goes-on}

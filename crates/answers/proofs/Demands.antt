@@ -1,0 +1,163 @@
+-- What the entry points promise, one page: each promise is a theorem, proved by citing.
+-- The code meets these definitions, with no `requires`: `cleaner::overlap` ensures `r ≡ overlapAnswer image first second` for every image and numbers, and `cleaner::clean` ensures that its answer and the three lent slices at exit are those of `cleanAnswer image lent`, for every image and every lent length. Under the C names `showclean_clean` and `showclean_overlap` ensure that the number returned is `packClean` and `packOverlap` of the same answers.
+use Prim.Native.Nat.{ℕ, _-_, _<_, _≤_}
+use native.Mathlib.Omega.{arith}
+use mathlib.Core.Path.{_≡_, refl, sym, ap, subst, _∙_}
+use mathlib.Core.Logic.{_↔_, _⊎_, inl, inr}
+use mathlib.Core.Bool.{Bool, true, false, cond}
+use mathlib.Core.List.{List, _++_}
+use lib.Dec.{eqb}
+use lib.ListN.{length, take, drop, getElem?}
+use Rattle.program.specs.Syntax.{Terms, Program}
+use Rattle.program.specs.Bytes.{Bytes}
+use Rattle.program.specs.Encode.{encode}
+use Rattle.program.specs.Limits.{Valid}
+use Rattle.program.specs.Decode.{Answer, decode}
+use Rattle.program.specs.Sentences.{Sentence, ownSentences}
+use Rattle.program.proofs.RoundTrip.{decodes, decode-encode, encode-decode}
+use Rattle.program.proofs.Own.{numbered-valid}
+use Rattle.patterns.specs.declared.Verdict.the-variants.{Disjoint, Overlap, Unknown}
+use Rattle.patterns.specs.Expression.{Expression}
+use Rattle.patterns.specs.Fresh.{Fresh}
+use Rattle.patterns.specs.Search.{patternsOverlap, start, spent}
+use Rattle.patterns.specs.Dry.{Dry}
+use Rattle.patterns.proofs.Plain.{Plain, valid-plain}
+use Rattle.patterns.proofs.Meet.{meet}
+use Rattle.patterns.proofs.Disjoint.{disjoint-sound}
+use Rattle.patterns.proofs.Overlap.{overlap-sound}
+use Rattle.patterns.proofs.Unknown.{unknown-dry}
+use Rattle.meaning.specs.Cleaning.{cleanResidualProgram}
+use Rattle.meaning.specs.CleanReport.{cleanReport}
+use Rattle.meaning.specs.Report.{formatCleanReport}
+use Rattle.meaning.specs.Run as the-run
+use Rattle.meaning.proofs.Fewer.{cleaned-valid}
+use Rattle.meaning.proofs.Compared.{Compares, compares-plain}
+use Rattle.meaning.proofs.SameRun.{same-run}
+use Rattle.answers.specs.declared.CleanAnswer.{CleanAnswer}
+use Rattle.answers.specs.declared.OverlapAnswer.{OverlapAnswer}
+use Rattle.answers.specs.Answers.{comparePatterns, overlapAnswer, OverlapValues, refusalValues, comparisonValues, verdictNumber, overlapValues}
+use Rattle.answers.specs.CleanAnswers.{Lent, Left, cleanedTo, zeroed, written, cleanAnswer, CleanValues, cleanValues}
+use Rattle.answers.specs.Packed.{cleanFields, overlapFields, packClean, packOverlap, CleanFits}
+use Rattle.answers.proofs.Fitting.{Unpacks, unpacks, overlap-fits}
+use Rattle.answers.proofs.Exactly.{CleanRefuses, CleanAccepts, untouched, clean-refuses, clean-accepts, clean-case, clean-number, OverlapRefuses, OverlapAccepts, overlap-refuses, overlap-accepts, overlap-case, overlap-number}
+use Rattle.answers.proofs.Numbers.{clean-told, clean-refused-told, overlap-told, overlap-refused-told, written-back, written-past, written-length}
+
+-- ---- Demand 1: "an accepted answer or one of refusals 1 to 13, each on its listed condition and on no other. A refusal writes nothing into the output or the report."
+
+-- Document 01's numbers for what Clean answers: 0 or the refusal, its place, the two lengths.
+abbrev pub cleanNumbers : List ℕ → Lent → CleanValues
+cleanNumbers image l = cleanValues (cleanAnswer image l .answer)
+
+module _ (image : List ℕ) (l : Lent) where
+  -- Number n with place p comes exactly if n's condition holds and no earlier one does (`CleanRefuses` lists them).
+  pub clean-refused : (n p : ℕ) → 1 ≤ n → ((cleanNumbers image l .number ≡ n) × (cleanNumbers image l .place ≡ p)) ↔ CleanRefuses image l n p
+  clean-refused n p h = (clean-refused-told image l n p h, λ k. (ap (λ (x : Left). cleanValues (x .answer) .number) (clean-refuses image l n p k) ∙ unfold cleanValues in refl, ap (λ (x : Left). cleanValues (x .answer) .place) (clean-refuses image l n p k) ∙ unfold cleanValues in refl))
+
+  -- 0 comes exactly if no condition holds.
+  pub clean-accepted : (cleanNumbers image l .number ≡ 0) ↔ ((w : Program) × CleanAccepts image l w)
+  clean-accepted = (clean-told image l, λ k. ap (λ (x : Left). cleanValues (x .answer) .number) (clean-accepts image l (k .0) (k .1)) ∙ unfold cleanValues in refl)
+
+  -- There is no other answer; Clean never gives 13.
+  pub clean-numbers : cleanNumbers image l .number ≤ 12
+  unfolding cleanValues
+  clean-numbers = by (clean-case image l)
+    where
+      by : ((n : ℕ) × (p : ℕ) × CleanRefuses image l n p) ⊎ ((w : Program) × CleanAccepts image l w) → cleanNumbers image l .number ≤ 12
+      by (inl k) = let e = ap (λ (x : Left). cleanValues (x .answer) .number) (clean-refuses image l (k .0) (k .1) (k .2)) in let h = clean-number image l (k .0) (k .1) (k .2) in omega (arith, e, h .1)
+      by (inr k) = let e = ap (λ (x : Left). cleanValues (x .answer) .number) (clean-accepts image l (k .0) (k .1)) in omega (arith, e)
+
+  -- "A refusal [..] changes no lent memory, with one exception at 12": work becomes zero.
+  pub refusal-writes-nothing : (n p : ℕ) → CleanRefuses image l n p → cleanAnswer image l .lent ≡ record { output = l .output; work = cond (eqb n 12) (zeroed (l .work)) (l .work); report = l .report }
+  unfolding untouched
+  refusal-writes-nothing n p h = ap (λ (x : Left). x .lent) (clean-refuses image l n p h)
+
+module _ (image : List ℕ) (first second : ℕ) where
+  -- The same of Overlap.
+  pub overlap-refused : (n p : ℕ) → 1 ≤ n → ((overlapValues (overlapAnswer image first second) .number ≡ n) × (overlapValues (overlapAnswer image first second) .place ≡ p)) ↔ OverlapRefuses image first second n p
+  overlap-refused n p h = (
+    overlap-refused-told image first second n p h,
+    λ k.
+        (ap (λ (x : OverlapAnswer). overlapValues x .number) (overlap-refuses image first second n p k) ∙ unfold overlapValues in refl, ap (λ (x : OverlapAnswer). overlapValues x .place) (overlap-refuses image first second n p k) ∙ unfold overlapValues in refl),
+  )
+
+  pub overlap-accepted : (overlapValues (overlapAnswer image first second) .number ≡ 0) ↔ ((x : Sentence) × (y : Sentence) × OverlapAccepts image first second x y)
+  overlap-accepted = (overlap-told image first second, λ k. ap (λ (x : OverlapAnswer). overlapValues x .number) (overlap-accepts image first second (k .0) (k .1) (k .2)) ∙ unfold overlapValues comparePatterns in refl)
+
+  -- "Overlap never gives 2, 3 or 12."
+  pub overlap-numbers : (n p : ℕ) → OverlapRefuses image first second n p → (n ≡ 1) ⊎ ((4 ≤ n) × (n ≤ 11)) ⊎ (n ≡ 13)
+  overlap-numbers = overlap-number image first second
+
+-- An image is accepted as a program exactly if it is the program's encoding and the program is within the limits.
+pub accepted-images : (image : List ℕ) (w : Program) → Bytes image → (decode image ≡ Answer.accepted w) ↔ ((image ≡ encode w) × Valid w)
+accepted-images = decodes
+
+-- An answer in one number, as the C names give it: number, middle and rest are found again in it, since they fit their bits. `showclean_clean` ensures `CleanFits` of Clean's answer, and an answer of Overlap always fits.
+pub clean-unpacks : (r : CleanAnswer) → CleanFits r → Unpacks (packClean r) (cleanFields r)
+clean-unpacks r h = unpacks (cleanFields r) h
+
+pub overlap-unpacks : (image : List ℕ) (first second : ℕ) → Unpacks (packOverlap (overlapAnswer image first second)) (overlapFields (overlapAnswer image first second))
+overlap-unpacks image first second = unpacks (overlapFields (overlapAnswer image first second)) (overlap-fits image first second)
+
+-- ---- Demand 2: "On every accepted image the cleaned show and each report line equal those of `clean_residual_program` and `format_clean_report`."
+
+-- The definitions mirror the Rust: the kept sentences encoded again, and the text. "work is then zero, and bytes past the lengths are unchanged."
+pub cleaned : (image : List ℕ) (l : Lent) (w : Program) → CleanAccepts image l w
+    → cleanAnswer image l
+    ≡ record { answer = cleanedTo (length (encode (cleanResidualProgram w))) (length (formatCleanReport (cleanReport w))); lent = record { output = written (encode (cleanResidualProgram w)) (l .output); work = zeroed (l .work); report = written (formatCleanReport (cleanReport w)) (l .report) } }
+cleaned = clean-accepts
+
+-- "bytes past the lengths are unchanged": n bytes are written into a slice that has as many.
+pub past-the-lengths : (s lent : List ℕ) → length s ≤ length lent → (drop (length s) (written s lent) ≡ drop (length s) lent) × (length (written s lent) ≡ length lent)
+past-the-lengths s lent h = (written-past s lent, written-length s lent h)
+
+-- "It returns 0, the verdict, and the entries spent by the outermost pair."
+pub answered : (image : List ℕ) (first second : ℕ) (x y : Sentence) → OverlapAccepts image first second x y
+    → overlapValues (overlapAnswer image first second) ≡ comparisonValues (verdictNumber (patternsOverlap (x .pattern) (y .pattern))) (spent (x .pattern) (y .pattern))
+unfolding overlapValues comparePatterns
+answered image first second x y h = ap overlapValues (overlap-accepts image first second x y h)
+
+-- "With each variable occurrence read as a fresh variable, Disjoint comes only if no expression matches both patterns, Overlap only if one does, Unknown only where a 4,096-entry fuel ran out."
+pub record Means (a b : Terms) : Type 0 where
+  pub disjoint : patternsOverlap a b ≡ Disjoint → (v : Expression) → Fresh a v → Fresh b v → ⊥
+  pub overlap : patternsOverlap a b ≡ Overlap → (v : Expression) × Fresh a v × Fresh b v
+  pub unknown : (patternsOverlap a b ≡ Unknown) ↔ Dry start a b
+
+means : (a b : Terms) → Plain a → Plain b → Means a b
+means a b h k = record { disjoint = disjoint-sound a b; overlap = λ e. let m = overlap-sound a b h k e in (meet a b, m .0, m .1); unknown = unknown-dry a b h k }
+
+module _ (image : List ℕ) (bytes : Bytes image) where
+  -- Of two sentences that Overlap compares.
+  pub overlap-means : (first second : ℕ) (x y : Sentence) → OverlapAccepts image first second x y → Means (x .pattern) (y .pattern)
+  overlap-means first second x y c =
+      let v = encode-decode image (c .program) bytes (c .accepted) .1 .0 .1 in
+      means (x .pattern) (y .pattern) (valid-plain (x .pattern) 0 (numbered-valid (c .program .functions) v first x (c .first-is))) (valid-plain (y .pattern) 0 (numbered-valid (c .program .functions) v second y (c .second-is)))
+
+  -- Of every pair that Clean compares: a sentence's pattern and a restriction of its function, in any round or for the final lists.
+  pub clean-means : (w : Program) → decode image ≡ Answer.accepted w → (p t : Terms) → Compares w p t → Means p t
+  clean-means w e p t c = let h = compares-plain w (encode-decode image w bytes e .1) p t c in means p t (h .0) (h .1)
+
+-- ---- Demand 3: raw and cleaned have the same run, "one claim about the whole event lists and endings of two runs with the same input, answer list and call limit: one of the accepted image's show and one of the show that Clean wrote from it".
+
+-- The bytes that Clean wrote: those of the output slice, up to the length returned.
+abbrev pub wrote : List ℕ → Lent → List ℕ
+wrote image l = take (cleanNumbers image l .output) (cleanAnswer image l .lent .output)
+
+module _ (image : List ℕ) (bytes : Bytes image) (l : Lent) (w : Program) (accepts : CleanAccepts image l w) where
+  wrote-cleaned : wrote image l ≡ encode (cleanResidualProgram w)
+  unfolding cleanValues written
+  wrote-cleaned = ap (λ (x : Left). take (cleanValues (x .answer) .output) (x .lent .output)) (clean-accepts image l w accepts) ∙ written-back (encode (cleanResidualProgram w)) (l .output)
+
+  -- They are an accepted image, of the cleaned program.
+  pub wrote-accepted : decode (wrote image l) ≡ Answer.accepted (cleanResidualProgram w)
+  wrote-accepted = ap decode wrote-cleaned ∙ decode-encode (cleanResidualProgram w) (cleaned-valid w (encode-decode image w bytes (accepts .accepted) .1))
+
+  -- Whatever program they are accepted as, its run is the raw program's: events, ending and value.
+  pub same-runs : (q : Program) → decode (wrote image l) ≡ Answer.accepted q → (input : Expression) (answers : List Expression) (limit : ℕ) → the-run.run q input answers limit ≡ the-run.run w input answers limit
+  same-runs q e input answers limit = ap (λ (p : Program). the-run.run p input answers limit) (same-answer (sym e ∙ wrote-accepted)) ∙ same-run w input answers limit
+    where
+      program : Answer → Program
+      program (Answer.refused n p) = w
+      program (Answer.accepted p) = p
+
+      same-answer : {p r : Program} → Answer.accepted p ≡ Answer.accepted r → p ≡ r
+      same-answer f = ap program f

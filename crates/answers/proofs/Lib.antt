@@ -1,0 +1,4 @@
+pub mod Fitting
+pub mod Exactly
+pub mod Numbers
+pub mod Demands

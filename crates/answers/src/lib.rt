@@ -1,0 +1,25 @@
+// What the entry points answer: definitions, the page of demands, and the types of the answers.
+use patterns::Verdict;
+use program::Refusal;
+
+// What Overlap says of two patterns: the verdict, and the entries spent by the outermost pair.
+pub struct Comparison {
+    pub verdict: Verdict,
+    pub spent: u32,
+}
+
+// How long the cleaned image and the report are.
+pub struct Lengths {
+    pub output: usize,
+    pub report: usize,
+}
+
+pub enum CleanAnswer {
+    Cleaned(Lengths),
+    Refused(Refusal),
+}
+
+pub enum OverlapAnswer {
+    Compared(Comparison),
+    Refused(Refusal),
+}

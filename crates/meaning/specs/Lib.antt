@@ -1,0 +1,13 @@
+pub mod Lists
+pub mod Sites
+pub mod Dispatch
+pub mod Restrictions
+pub mod Root
+pub mod Cleaning
+pub mod Text
+pub mod CleanReport
+pub mod Decimal
+pub mod Match
+pub mod Report
+pub mod Spanless
+pub mod Run

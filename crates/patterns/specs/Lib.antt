@@ -1,0 +1,10 @@
+pub mod Ascii
+pub mod Names
+pub mod Symbols
+pub mod Equality
+pub mod Configuration
+pub mod Search
+pub mod Dry
+pub mod Expression
+pub mod Fresh
+pub mod Table

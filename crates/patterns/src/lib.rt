@@ -1,0 +1,13 @@
+// Symbols, patterns, and whether one expression can match two of them: definitions and theorems, and the types that code shares with them.
+// The answer to whether one expression can match two patterns.
+pub enum Verdict {
+    Disjoint,
+    Overlap,
+    Unknown,
+}
+
+// A verdict, with the fuel that is left.
+pub struct Found {
+    pub verdict: Verdict,
+    pub fuel: u32,
+}

@@ -1,0 +1,10 @@
+pub mod Numbers
+pub mod Tests
+pub mod Sound
+pub mod Complete
+pub mod Examples
+pub mod Lengths
+pub mod Listed
+pub mod Own
+pub mod RoundTrip
+pub mod Splits

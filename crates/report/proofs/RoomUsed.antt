@@ -1,0 +1,70 @@
+-- What verdicts leave of the entries that the report reads.
+use Prim.Native.Nat.{ℕ, suc, _+_, _<_}
+use native.Mathlib.Omega.{arith}
+use mathlib.Core.Path.{_≡_, sym, ap, subst, _∙_}
+use mathlib.Core.Bool.{Bool}
+use mathlib.Core.List.{List}
+use lib.ListN.{getD}
+use Rattle.program.specs.Syntax.{Program}
+use Rattle.index.specs.declared.Plan.{Plan}
+use Rattle.index.specs.Layout.{witnesses, calls, links}
+use Rattle.index.specs.Links.{entryNext}
+use Rattle.told.specs.History.{isThere, afterAll, Told}
+use Rattle.cleaning.specs.Indexed.{fellOf}
+use Rattle.cleaning.specs.Room.{Remembering, Used}
+use Rattle.cleaning.specs.Walks.{Witnessed}
+use Rattle.told.specs.ToldReport.{toldReport}
+use Rattle.cleaning.proofs.Room.{used-fell, used-indexed}
+use Rattle.cleaning.proofs.Witnesses.{witnessed-kept}
+use Rattle.report.specs.declared.format.Figures.{Figures}
+use Rattle.report.specs.Emitting.{Readable, SomeReadable}
+use Rattle.report.specs.Leading.{SomeSite}
+use Rattle.report.specs.Removed.{Removing}
+use Rattle.report.specs.Figures.{FiguresOf, Reporting}
+
+-- The columns before were those after.
+pub used-back : {b : List ℕ} {p : Plan} {old new : List ℕ} → Remembering b p old → Used b p old new → Used b p new old
+used-back r u = record { length = sym (u .length); columns = λ k h. sym (u .columns k h); remembers = r }
+
+module _ {b : List ℕ} {p : Plan} {old new : List ℕ} (u : Used b p old new) where
+  pub used-keep : (r : ℕ) → isThere (fellOf p new) r ≡ isThere (fellOf p old) r
+  used-keep r = ap (λ (f : ℕ → ℕ). isThere f r) (used-fell u)
+
+  -- The next of the list of a site, where `next_site` says.
+  pub used-next : (from i : ℕ) → from ≡ calls p → i < p .sites → (v : ℕ) → v ≡ entryNext (getD new (from + p .sites + i) 0) → v ≡ entryNext (getD old (links p + i) 0)
+  used-next from i e h v z = z ∙ (ap (λ (k : ℕ). entryNext (getD new (k + p .sites + i) 0)) e ∙ ap entryNext (u .columns (links p + i) (omega arith)))
+
+  pub used-readable : {w : Program} → Readable b w old p → Readable b w new p
+  used-readable {w} d = record {
+    indexed = used-indexed u (d .indexed);
+    short = d .short;
+    witnessed = subst (λ (k : ℕ → Bool). Witnessed k w new p) (sym (used-keep afterAll)) (witnessed-kept (d .indexed .sentences) (λ s l. u .columns (witnesses p + s) (omega arith)) (d .witnessed));
+  }
+
+  pub used-some : SomeReadable b old p → SomeReadable b new p
+  used-some s = record { program = s .program; readable = used-readable (s .readable) }
+
+  pub used-site : {i : ℕ} → SomeSite b old p i → SomeSite b new p i
+  used-site s = record {
+    program = s .program;
+    readable = used-readable (s .readable);
+    place = s .place;
+    function = s .function;
+    is = s .is;
+    site = s .site;
+    at = s .at;
+    listed = s .listed;
+  }
+
+  pub used-removing : {w : Program} {n : ℕ} → Removing b w old p n → Removing b w new p n
+  used-removing {w} {n} d = record {
+    readable = used-readable (d .readable);
+    told = subst (λ (f : ℕ → ℕ). Told w f n) (sym (used-fell u)) (d .told);
+    below = subst (λ (f : ℕ → ℕ). (s : ℕ) → f s < suc n) (sym (used-fell u)) (d .below);
+  }
+
+  pub used-reporting : {w : Program} {n : ℕ} {g : Figures} → Reporting b w old p n g → Reporting b w new p n g
+  used-reporting {w} {n} {g} d = record {
+    removing = used-removing (d .removing);
+    figures = subst (λ (f : ℕ → ℕ). FiguresOf (toldReport w f n) g) (sym (used-fell u)) (d .figures);
+  }

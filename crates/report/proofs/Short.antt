@@ -1,0 +1,125 @@
+-- How long a report is at most: its length fits 40 bits.
+use Prim.Native.Nat.{ℕ, zero, suc, _+_, _*_, _≤_, _<_}
+use native.Mathlib.Omega.{arith}
+use native.Mathlib.Nat.{mul-le-mul}
+use mathlib.Core.Path.{_≡_, refl, sym, _∙_}
+use mathlib.Core.Bool.{Bool, true, false}
+use mathlib.Core.List.{List, [], _∷_, _++_, flatMap}
+use borrow.Author.Tests.{leb-true, leb-false}
+use lib.Dec.{leb}
+use lib.ListN.{length, length-append}
+use Rattle.program.specs.Syntax.{Program}
+use Rattle.program.specs.Encode.{ownSentenceCount}
+use Rattle.patterns.specs.Ascii.{ascii}
+use Rattle.program.proofs.Own.{own-counted}
+use Rattle.index.specs.declared.Plan.{Plan}
+use Rattle.meaning.specs.Root.{rootPlace}
+use Rattle.meaning.specs.CleanReport.{CleanReport, sameUndecided, sameUncovered}
+use Rattle.told.specs.History.{isThere}
+use Rattle.told.specs.Numbered.{sitesOf}
+use Rattle.told.specs.ToldReport.{undecidedTold, uncoveredTold, toldReport, unchangedReport}
+use Rattle.meaning.specs.Decimal.{decimal}
+use Rattle.meaning.specs.Report.{removedLine, undecidedLine, uncoveredLine, Perfection, perfection, graphLine, uncharacterisedLine, dispatchLine, lastLines, formatCleanReport}
+use Rattle.meaning.proofs.Decimal.{decimal-length}
+use Rattle.report.specs.Emitting.{Readable}
+use Rattle.told.proofs.AtMost.{runs-among, most-among, flatten-length, lines-length}
+use Rattle.told.proofs.Fallen.{start-count}
+use Rattle.report.proofs.Fits.{functions-fit, sites-fit, removed-most, undecided-most, uncovered-most, opened-most, uncharacterised-line}
+
+clean-length : (u v : ℕ) → u < 100000000000000000 → v < 100000000000000000 → length (graphLine (Perfection.clean u v)) ≤ 72
+unfolding graphLine ascii
+clean-length u v h g =
+    omega (arith, flatten-length (ascii "graph: clean (undecided " ∷ decimal u ∷ ascii ", uncovered " ∷ decimal v ∷ ascii ")\n" ∷ []), decimal-length 16 u h, decimal-length 16 v g)
+
+graph-length : (t : Bool) (u v : ℕ) → u < 100000000000000000 → v < 100000000000000000 → length (graphLine (perfection t u v)) ≤ 72
+unfolding perfection graphLine ascii
+graph-length true u v h g = omega arith
+graph-length false zero zero h g = omega arith
+graph-length false zero (suc v) h g = clean-length zero (suc v) h g
+graph-length false (suc u) v h g = clean-length (suc u) v h g
+
+-- The numbers of a report have at most 17 digits.
+record Small (r : CleanReport) : Type 0 where
+  pub functions : r .functions < 100000000000000000
+  pub before : r .sentencesBefore < 100000000000000000
+  pub after : r .sentencesAfter < 100000000000000000
+  pub rounds : r .rounds < 100000000000000000
+  pub removed : length (r .removed) < 100000000000000000
+  pub undecided : length (r .undecided) < 100000000000000000
+  pub uncovered : length (r .uncovered) < 100000000000000000
+
+dispatch-length : (t : Bool) → length (dispatchLine t) ≤ 40
+unfolding dispatchLine ascii
+dispatch-length true = omega arith
+dispatch-length false = omega arith
+
+-- Beside its lists a report has few bytes.
+report-length : (r : CleanReport) → Small r
+    → length (formatCleanReport r) ≤ 400 + (length (flatMap removedLine (r .removed)) + (length (flatMap undecidedLine (r .undecided)) + (length (flatMap uncoveredLine (r .uncovered)) + length (uncharacterisedLine (r .uncharacterised)))))
+unfolding formatCleanReport lastLines ascii
+report-length r h =
+    let g = graphLine (perfection (r .dynamicDispatch) (length (r .undecided)) (length (r .uncovered))) in
+    omega (
+      arith,
+      flatten-length (ascii "functions: " ∷ decimal (r .functions)
+          ∷ ascii "\nsentences: " ∷ decimal (r .sentencesBefore) ∷ ascii " -> " ∷ decimal (r .sentencesAfter)
+          ∷ ascii "\nrounds: " ∷ decimal (r .rounds)
+          ∷ ascii "\nremoved: " ∷ decimal (length (r .removed)) ∷ ascii "\n" ∷ flatMap removedLine (r .removed)
+          ∷ ascii "undecided: " ∷ decimal (length (r .undecided)) ∷ ascii "\n" ∷ flatMap undecidedLine (r .undecided)
+          ∷ ascii "uncovered: " ∷ decimal (length (r .uncovered)) ∷ ascii "\n" ∷ flatMap uncoveredLine (r .uncovered)
+          ∷ lastLines r ∷ []),
+      length-append (uncharacterisedLine (r .uncharacterised)) (dispatchLine (r .dynamicDispatch) ++ g),
+      length-append (dispatchLine (r .dynamicDispatch)) g,
+      dispatch-length (r .dynamicDispatch),
+      graph-length (r .dynamicDispatch) (length (r .undecided)) (length (r .uncovered)) (h .undecided) (h .uncovered),
+      decimal-length 16 (r .functions) (h .functions),
+      decimal-length 16 (r .sentencesBefore) (h .before),
+      decimal-length 16 (r .sentencesAfter) (h .after),
+      decimal-length 16 (r .rounds) (h .rounds),
+      decimal-length 16 (length (r .removed)) (h .removed),
+      decimal-length 16 (length (r .undecided)) (h .undecided),
+      decimal-length 16 (length (r .uncovered)) (h .uncovered),
+    )
+
+-- Of two numbers one is no more than half of both.
+product-small : (a b : ℕ) → a + b ≤ 4096 → a * b ≤ 8388608
+product-small a b h = by (leb a 2048) refl
+  where
+    by : (t : Bool) → leb a 2048 ≡ t → a * b ≤ 8388608
+    by true e = let l : b ≤ 4096 = omega arith in omega (arith, mul-le-mul (leb-true a 2048 e) l)
+    by false e =
+        let l : a ≤ 4096 = omega arith in
+        let k : b ≤ 2048 = omega (arith, leb-false a 2048 e) in
+        omega (arith, mul-le-mul l k)
+
+pub unchanged-short : (w : Program) → length (w .functions) < 100000000000000000 → ownSentenceCount (w .functions) < 100000000000000000 → length (formatCleanReport (unchangedReport w)) < 1099511627776
+unfolding unchangedReport flatMap uncharacterisedLine
+unchanged-short w f s =
+    omega (arith, report-length (unchangedReport w) (record { functions = f; before = s; after = s; rounds = omega arith; removed = omega arith; undecided = omega arith; uncovered = omega arith }))
+
+pub report-short : {b : List ℕ} {w : Program} {m : List ℕ} {p : Plan} → Readable b w m p → (fell : ℕ → ℕ) (n : ℕ) → n < 4096 → length (formatCleanReport (toldReport w fell n)) < 1099511627776
+unfolding toldReport
+report-short {b} {w} {m} {p} d fell n h =
+    let e = functions-fit d in
+    let s = sites-fit d in
+    let keep = isThere fell (suc n) in
+    let r = toldReport w fell n in
+    let x = removed-most fell w n e s in
+    let y = most-among (runs-among sameUndecided (undecidedTold keep (sitesOf w) 0 (w .functions)) []) (undecided-most keep (sitesOf w) 0 (w .functions) e) in
+    let z = most-among (runs-among sameUncovered (uncoveredTold keep (sitesOf w) 0 (w .functions)) []) (uncovered-most keep (sitesOf w) s 0 (w .functions) e) in
+    let o = opened-most (rootPlace w) (sitesOf w) (w .functions) e in
+    let functions : length (w .functions) ≡ p .functions = d .indexed .functions in
+    let sentences : ownSentenceCount (w .functions) ≡ p .sentences = sym (own-counted (w .functions)) ∙ d .indexed .sentences in
+    let few : p .functions + (p .sentences + p .sites) ≤ 4096 = omega (arith, d .indexed .fits, d .indexed .small) in
+    let fn = product-small (length (w .functions)) (p .sites) (omega (arith, functions, few)) in
+    let sn = product-small (ownSentenceCount (w .functions)) (p .sites) (omega (arith, sentences, few)) in
+    let small : Small r = record {
+      functions = omega (arith, functions, few);
+      before = omega (arith, sentences, few);
+      after = omega (arith, start-count w fell (suc n), sentences, few);
+      rounds = omega (arith, h);
+      removed = omega (arith, x .few, sentences, few);
+      undecided = omega (arith, y .few, sentences, few);
+      uncovered = omega (arith, z .few, fn);
+    } in
+    omega (arith, report-length r small, lines-length removedLine (65555 + p .sites * 32771) (r .removed) x, lines-length undecidedLine 65542 (r .undecided) y, lines-length uncoveredLine 65543 (r .uncovered) z, uncharacterised-line (r .uncharacterised) o, fn, sn, functions, sentences, few)

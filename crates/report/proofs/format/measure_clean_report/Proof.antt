@@ -1,0 +1,89 @@
+-- `report::format::measure_clean_report` meets its contract. Assumes nothing.
+use native.Mathlib.Omega.{arith}
+use mathlib.Core.Path.{_∙_}
+use mathlib.Core.Bool.{false}
+use mathlib.Core.List.{_++_}
+use Rattle.patterns.specs.Ascii.{ascii}
+use Rattle.patterns.specs.Names.{sameName}
+use Rattle.meaning.specs.Lists.{firsts}
+use Rattle.told.specs.Numbered.{sitesOf}
+use Rattle.cleaning.specs.Indexed.{fellOf}
+use Rattle.told.specs.ToldReport.{openedNames, toldReport}
+use Rattle.text.specs.Counts.{topText}
+use Rattle.meaning.specs.Report.{uncharacterisedLine, perfection, graphLine}
+use Rattle.text.proofs.Fill.{emitted-append, emitted-same, emitted-length}
+use Rattle.report.specs.Format.{listsText}
+use Rattle.report.proofs.Whole.{lists-measured, whole-told}
+use borrow.Author.Needs.{needs}
+use Rattle.report.proofs.format.measure_clean_report.Statement.{statement}
+use Rattle.report.proofs.format.measure_clean_report.Tie as tie
+
+put-top-requires : tie.Need-put-top-requires
+put-top-requires c κs = search needs
+
+add-undecided : tie.Need-add-undecided
+add-undecided c = search needs
+
+slice-aggregate-put-count-line : tie.Need-slice-aggregate-put-count-line
+slice-aggregate-put-count-line c = search needs
+
+put-count-line-requires : tie.Need-put-count-line-requires
+put-count-line-requires c κs = search needs
+
+add-uncovered : tie.Need-add-uncovered
+add-uncovered c = search needs
+
+slice-aggregate-put-count-line-2 : tie.Need-slice-aggregate-put-count-line-2
+slice-aggregate-put-count-line-2 c = search needs
+
+put-count-line-requires-2 : tie.Need-put-count-line-requires-2
+put-count-line-requires-2 c κs = search needs
+
+add-open : tie.Need-add-open
+add-open c =
+    let few = c .before .before .before .before .before .before .before .before .before .before .before .before .before .before .before .before .before .before .before .before .pre .0 .few in
+    omega (arith, c .before .before .before .put-count-line2 .ensures .1, c .before .before .before .before .before .before .before .before .before .put-count-line .ensures .1, c .before .before .before .before .before .before .before .before .before .before .before .before .before .before .before .put-top .ensures .1, few .removed-length, few .undecided-length, few .uncovered-length)
+
+put-uncharacterised-requires : tie.Need-put-uncharacterised-requires
+put-uncharacterised-requires c κs =
+    let p = c .before .before .before .before .before .before .before .before .before .before .before .before .before .before .before .before .before .before .before .before .before .pre .0 in
+    (record { program = p .program; readable = p .reporting .removing .readable }, omega (arith, c .before .before .before .before .put-count-line2 .ensures .1, c .before .before .before .before .before .before .before .before .before .before .put-count-line .ensures .1, c .before .before .before .before .before .before .before .before .before .before .before .before .before .before .before .before .put-top .ensures .1, p .few .removed-length, p .few .undecided-length, p .few .uncovered-length))
+
+put-graph-requires : tie.Need-put-graph-requires
+put-graph-requires c κs =
+    let few = c .before .before .before .before .before .before .before .before .before .before .before .before .before .before .before .before .before .before .before .before .before .before .before .before .before .pre .0 .few in
+    (few .undecided, few .uncovered, omega (arith, c .before .before .before .put-uncharacterised .ensures .1, c .before .before .before .before .before .before .before .before .put-count-line2 .ensures .1, c .before .before .before .before .before .before .before .before .before .before .before .before .before .before .put-count-line .ensures .1, c .before .before .before .before .before .before .before .before .before .before .before .before .before .before .before .before .before .before .before .before .put-top .ensures .1, few .removed-length, few .undecided-length, few .uncovered-length))
+
+same-length : tie.Need-same-length
+same-length c = search needs
+
+returns : tie.Need-returns
+unfolding ascii
+returns c = λ w x root.
+    let a = c .before .before .before .before .before .before .before .before .before .before .before .before .before .before .before .before .before .before .before .before .before .before .before .before .before .before .before .before .args in
+    let r = toldReport w (fellOf (a .plan) (a .work .now)) (a .rounds) in
+    let d = x .removing .readable in
+    let names = uncharacterisedLine (firsts sameName (openedNames (a .root) (sitesOf w) 0 (w .functions))) in
+    let graph = graphLine (perfection false (a .figures .undecided) (a .figures .uncovered)) in
+    let top = c .before .before .before .before .before .before .before .before .before .before .before .before .before .before .before .before .before .before .before .before .before .before .before .put-top .ensures .0 in
+    emitted-same (whole-told w (fellOf (a .plan) (a .work .now)) (a .rounds) (a .plan) (a .root) (a .figures) (x .figures) (d .indexed .functions) (d .indexed .sentences) root)
+    (emitted-append (topText (a .plan .functions) (a .plan .sentences) (a .figures .after) (a .rounds) (a .figures .removed)) (listsText r ++ (names ++ graph)) top
+    (emitted-append (listsText r) (names ++ graph) (lists-measured r (a .figures) (x .figures) (emitted-length top ∙ c .before .before .before .before .before .before .before .before .before .before .before .before .before .before .before .before .before .before .before .before .before .before .before .before .before .before .before .before .pre .2) (c .before .before .before .before .before .before .before .before .before .before .before .before .before .before .before .before .before .put-count-line .ensures .0) (c .before .before .before .before .before .before .before .before .before .before .before .put-count-line2 .ensures .0))
+    (emitted-append names graph (c .before .before .before .before .before .before .put-uncharacterised .ensures .0 w d) (c .before .before .put-graph .ensures))))
+
+pub measure-clean-report-spec : {M : Type 1} → statement M
+measure-clean-report-spec =
+    tie.close
+    (tie.spec
+    put-top-requires
+    add-undecided
+    slice-aggregate-put-count-line
+    put-count-line-requires
+    add-uncovered
+    slice-aggregate-put-count-line-2
+    put-count-line-requires-2
+    add-open
+    put-uncharacterised-requires
+    put-graph-requires
+    same-length
+    returns)

@@ -1,0 +1,75 @@
+-- `report::names::put_uncharacterised` meets its contract. Assumes nothing.
+use Prim.Native.Nat.{_+_, _-_, _*_, _≤_}
+use native.Mathlib.Omega.{arith}
+use mathlib.Core.Path.{_∙_}
+use Rattle.program.specs.Syntax.{Program}
+use Rattle.text.specs.Fill.{Emitted}
+use Rattle.text.proofs.Fill.{emitted-nothing, emitted-same, emitted-length}
+use Rattle.report.specs.Emitting.{Readable}
+use Rattle.report.proofs.Places.{function-of}
+use Rattle.report.proofs.Opened.{lineTo, line-start, line-step, line-done}
+use Rattle.report.proofs.names.put_uncharacterised.Statement.{statement}
+use Rattle.report.proofs.names.put_uncharacterised.Tie as tie
+
+abbrev Inv-loop : tie.InvT-loop
+Inv-loop b work plan root out₀ at place₀ f₀ out place f = (f ≤ plan .functions) × (place ≤ at + f * 32785) × ((w : Program) → Readable b w work plan → Emitted out₀ at (lineTo root w f) place out)
+
+abbrev μ-loop : tie.MeasureT-loop
+μ-loop b work plan root out₀ at place₀ f₀ out place f = plan .functions - f
+
+loop-holds : tie.Need-loop-holds Inv-loop μ-loop
+loop-holds c = (omega arith, omega arith, λ w d. emitted-same (line-start ((c .before .before .before) .args .root) w) (emitted-nothing ((c .before .before .before) .args .out .now) ((c .before .before .before) .args .at)))
+
+put-opened-requires : tie.Need-put-opened-requires Inv-loop μ-loop
+put-opened-requires c κs =
+    let d = (c .before .before .before .before .before .before .before) .pre .0 .readable .indexed in (
+      (c .before .before .before .before .before .before .before) .pre .0,
+      (c .before) .if1 .taken,
+      omega (arith, (c .before .before .before) .loop .inv .1, (c .before) .if1 .taken, d .fits, d .small, (c .before .before .before .before .before .before .before) .pre .1),
+    )
+
+add-f : tie.Need-add-f Inv-loop μ-loop
+add-f c = let d = (c .before .before .before .before .before .before .before .before .before .before) .pre .0 .readable .indexed in omega (arith, (c .before .before .before .before) .if1 .taken, d .fits, d .small)
+
+loop-less : tie.Need-loop-less Inv-loop μ-loop
+loop-less c = omega (arith, (c .before .before .before .before) .if1 .taken)
+
+loop-again : tie.Need-loop-again Inv-loop μ-loop
+loop-again c = (
+  omega (arith, (c .before .before .before .before) .if1 .taken),
+  omega (arith, (c .before .before .before .before .before .before) .loop .inv .1, (c .before .before) .put-opened .ensures .1),
+  λ w d.
+      let x = function-of d ((c .before .before .before .before .before .before) .loop .f) ((c .before .before .before .before) .if1 .taken) in
+      line-step ((c .before .before .before .before .before .before .before .before .before .before) .args .root) w ((c .before .before .before .before .before .before) .loop .f) (x .element) (x .is) ((c .before .before .before .before .before .before) .loop .inv .2 w d) ((c .before .before) .put-opened .ensures .0 w (x .element) d (x .is)),
+)
+
+put-line-end-requires : tie.Need-put-line-end-requires Inv-loop μ-loop
+put-line-end-requires c κs =
+    let d = (c .before .before .before .before .before .before .before) .pre .0 .readable .indexed in
+    omega (arith, (c .before .before .before) .loop .inv .0, (c .before .before .before) .loop .inv .1, d .fits, d .small, (c .before .before .before .before .before .before .before) .pre .1)
+
+same-length : tie.Need-same-length Inv-loop μ-loop
+same-length c =
+    emitted-length ((c .before .before) .put-line-end .ensures .0) ∙ emitted-length ((c .before .before .before .before .before .before) .loop .inv .2 ((c .before .before .before .before .before .before .before .before .before .before) .pre .0 .program) ((c .before .before .before .before .before .before .before .before .before .before) .pre .0 .readable))
+
+returns : tie.Need-returns Inv-loop μ-loop
+returns c =
+    let i = (c .before .before .before .before .before .before .before .before .before .before) .pre .0 .readable .indexed in (
+      λ w d. line-done ((c .before .before .before .before .before .before .before .before .before .before) .args .root) w ((c .before .before .before .before .before .before) .loop .f) (omega (arith, (c .before .before .before .before) .if1 .left, d .indexed .functions)) ((c .before .before .before .before .before .before) .loop .inv .2 w d) ((c .before .before) .put-line-end .ensures .0),
+      omega (arith, (c .before .before .before .before .before .before) .loop .inv .0, (c .before .before .before .before .before .before) .loop .inv .1, (c .before .before) .put-line-end .ensures .1, i .fits, i .small),
+    )
+
+pub put-uncharacterised-spec : {M : Type 1} → statement M
+put-uncharacterised-spec =
+    tie.close
+    (tie.spec
+    Inv-loop
+    μ-loop
+    loop-holds
+    put-opened-requires
+    add-f
+    loop-less
+    loop-again
+    put-line-end-requires
+    same-length
+    returns)

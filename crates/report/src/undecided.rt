@@ -1,0 +1,223 @@
+// The undecided sentences: those that no restriction gives Overlap.
+use crate::AFTER_ALL;
+use crate::alike::same_function;
+use crate::alike::same_pattern;
+use crate::sentence::put_sentence;
+use cleaning::rounds::first_sentence;
+use cleaning::verdict::verdict_at;
+use cleaning::walks::calls_of;
+use cleaning::walks::is_judged;
+use cleaning::walks::is_there;
+use cleaning::walks::site_there;
+use cleaning::walks::witness_of;
+use index::Plan;
+use index::table::next_site;
+use index::table::place_of;
+use overlap::is_overlap;
+use text::emit::put_byte;
+ghost use mathlib.Core.Path.{_≡_};
+ghost use mathlib.Core.Bool.{true};
+ghost use mathlib.Core.List.{[], _∷_, flatMap};
+ghost use mathlib.Core.Option.{some};
+ghost use Prim.Native.Nat.{ℕ, suc, _+_, _*_, _<_, _≤_};
+ghost use lib.ListN.{length, getElem?, drop};
+ghost use Rattle.program.specs.Syntax.{Function, Program};
+ghost use Rattle.program.specs.Limits.{Mode};
+ghost use Rattle.image.specs.Parts.{TermsAt};
+ghost use Rattle.program.specs.Sentences.{Sentence, ownSentences};
+ghost use Rattle.meaning.specs.Lists.{any};
+ghost use Rattle.told.specs.Numbered.{Held, sentencesBefore, sitesOf};
+ghost use Rattle.told.specs.Calls.{isListed};
+ghost use Rattle.told.specs.Asked.{isJudged};
+ghost use Rattle.meaning.specs.CleanReport.{sameUndecided};
+ghost use Rattle.told.specs.History.{isThere, afterAll};
+ghost use Rattle.cleaning.specs.Indexed.{Indexed, fellOf};
+ghost use Rattle.cleaning.specs.Room.{Remembering, Used};
+ghost use Rattle.told.specs.ToldReport.{overlaps, undecidedIn, judgedOnly, undecidedTold, runsAfter};
+ghost use Rattle.cleaning.specs.Walks.{SomeAsked, Owns};
+ghost use Rattle.text.specs.Fill.{Emitted, limit};
+ghost use Rattle.meaning.specs.Report.{undecidedLine};
+ghost use Rattle.report.specs.Emitting.{Readable, SomeReadable, SomeSentence};
+ghost use Rattle.report.specs.Undecided.{undecidedOne, lastUndecided, undecidedAt, Undecided};
+
+// The place after the lines so far, how many they are, and the last candidate: its function, and which of the
+// sentences, or of the sites, it is; their count, while there is none.
+pub struct Listed {
+    pub at: usize,
+    pub count: usize,
+    pub function: usize,
+    pub item: usize,
+}
+
+// Whether the site i is there when the round begins, and the pattern that stands at `pattern` of the body b has an Overlap with it.
+fn overlaps_at(
+    b: &[u8],
+    work: &mut [u32],
+    plan: Plan,
+    pattern: usize,
+    i: usize,
+    round: usize,
+) -> bool
+    requires { ⌜ SomeAsked (now b) (now work) plan pattern i × (length (now b) ≤ 32768) × Remembering (now b) plan (now work) ⌝ }
+    ensures answers { λ r. ⌜ ((w : Program) (f : ℕ) (x : Function) (y : Held) → Indexed (now (b .entry)) w (now (work .entry)) plan → getElem? (w .functions) f ≡ some x → getElem? (sitesOf w) i ≡ some y → isListed true (x .name) y ≡ true → (t : TermsAt Mode.pattern (drop pattern (now (b .entry)))) → r ≡ overlaps (isThere (fellOf plan (now (work .entry))) round) (x .name) (t .terms) y) ⌝ }
+    ensures keeps { λ _. ⌜ Used (now (b .entry)) plan (now (work .entry)) (now (work .exit)) ⌝ }
+{
+    if !site_there(work, plan, i, round) {
+        return false;
+    }
+    is_overlap(verdict_at(b, work, plan, pattern, i))
+}
+
+// Whether a restriction of the f-th function gives its sentence s Overlap in the end. The sites before its witness give Disjoint.
+fn is_decided(b: &[u8], work: &mut [u32], plan: Plan, f: usize, s: usize) -> bool
+    requires { ⌜ SomeSentence (now b) (now work) plan f s × Remembering (now b) plan (now work) ⌝ }
+    ensures answers { λ r. ⌜ ((w : Program) (x : Function) (y : Sentence) → Readable (now (b .entry)) w (now (work .entry)) plan → Owns w f x s y → r ≡ any (overlaps (isThere (fellOf plan (now (work .entry))) afterAll) (x .name) (y .pattern)) (sitesOf w)) ⌝ }
+    ensures keeps { λ _. ⌜ Used (now (b .entry)) plan (now (work .entry)) (now (work .exit)) ⌝ }
+{
+    let pattern = place_of(work, 2 * plan.functions + s) + 9;
+    let links = calls_of(plan) + plan.sites;
+    let mut i = witness_of(work, plan, f, s);
+    while i < plan.sites {
+        if overlaps_at(b, work, plan, pattern, i, AFTER_ALL) {
+            return true;
+        }
+        i = next_site(work, links, i);
+    }
+    false
+}
+
+// Whether the candidate, the sentence s of the f-th function, repeats the last one.
+fn repeats_last(b: &[u8], work: &[u32], plan: Plan, f: usize, s: usize, listed: Listed) -> bool
+    requires { ⌜ SomeReadable (now b) (now work) plan × (f < plan .functions) × (s < plan .sentences) × (listed .function < plan .functions) ⌝ }
+    ensures { λ r. ⌜ ((w : Program) (x : Function) (y : Sentence) → Readable (now (b .entry)) w (now (work .entry)) plan → getElem? (w .functions) f ≡ some x → getElem? (ownSentences (w .functions)) s ≡ some y → r ≡ any (λ z. sameUndecided z (undecidedOne x y)) (lastUndecided w (listed .function) (listed .item))) ⌝ }
+{
+    if plan.sentences <= listed.item {
+        return false;
+    }
+    if !same_function(b, work, plan, listed.function, f) {
+        return false;
+    }
+    same_pattern(b, work, plan, listed.item, s)
+}
+
+// Tells the candidate: a line, unless it repeats the last one.
+fn put_candidate(
+    b: &[u8],
+    work: &[u32],
+    plan: Plan,
+    f: usize,
+    s: usize,
+    out: &mut [u8],
+    listed: Listed,
+) -> Listed
+    requires { ⌜ SomeReadable (now b) (now work) plan × (f < plan .functions) × (s < plan .sentences) × (listed .function < plan .functions) × (listed .at + 80000 ≤ limit) × (listed .count ≤ listed .at) ⌝ }
+    ensures told { λ r. ⌜ ((w : Program) (x : Function) (y : Sentence) → Readable (now (b .entry)) w (now (work .entry)) plan → getElem? (w .functions) f ≡ some x → getElem? (ownSentences (w .functions)) s ≡ some y → Undecided w (undecidedOne x y ∷ []) (now (out .entry)) (listed .at) (listed .count) (listed .function) (listed .item) (now (out .exit)) (r .at) (r .count) (r .function) (r .item)) ⌝ }
+    ensures short { λ r. ⌜ (r .at ≤ listed .at + 80000) × (r .count ≤ r .at) × (r .function ≤ f) ⌝ }
+{
+    if repeats_last(b, work, plan, f, s, listed) {
+        return Listed {
+            at: listed.at,
+            count: listed.count,
+            function: f,
+            item: s,
+        };
+    }
+    let end = put_sentence(b, work, plan, f, s, out, listed.at);
+    let at = put_byte(out, end, 10);
+    Listed {
+        at: at,
+        count: listed.count + 1,
+        function: f,
+        item: s,
+    }
+}
+
+// Tells the sentence s of the f-th function, if it is left and undecided.
+fn put_if_undecided(
+    b: &[u8],
+    work: &mut [u32],
+    plan: Plan,
+    f: usize,
+    s: usize,
+    out: &mut [u8],
+    listed: Listed,
+) -> Listed
+    requires { ⌜ SomeSentence (now b) (now work) plan f s × (listed .function ≤ f) × (listed .at + 80000 ≤ limit) × (listed .count ≤ listed .at) × Remembering (now b) plan (now work) ⌝ }
+    ensures told { λ r. ⌜ ((w : Program) (x : Function) (y : Sentence) → Readable (now (b .entry)) w (now (work .entry)) plan → Owns w f x s y → Undecided w (undecidedAt (isThere (fellOf plan (now (work .entry))) afterAll) (sitesOf w) x s y) (now (out .entry)) (listed .at) (listed .count) (listed .function) (listed .item) (now (out .exit)) (r .at) (r .count) (r .function) (r .item)) ⌝ }
+    ensures short { λ r. ⌜ (r .at ≤ listed .at + 80000) × (r .count ≤ r .at) × (r .function ≤ f) ⌝ }
+    ensures keeps { λ _. ⌜ Used (now (b .entry)) plan (now (work .entry)) (now (work .exit)) ⌝ }
+{
+    if !is_there(work, plan, s, AFTER_ALL) {
+        return listed;
+    }
+    if is_decided(b, work, plan, f, s) {
+        return listed;
+    }
+    put_candidate(b, work, plan, f, s, out, listed)
+}
+
+// Tells the undecided sentences of the f-th function.
+fn put_undecided_in(
+    b: &[u8],
+    work: &mut [u32],
+    plan: Plan,
+    f: usize,
+    out: &mut [u8],
+    listed: Listed,
+) -> Listed
+    requires { ⌜ SomeReadable (now b) (now work) plan × (f < plan .functions) × (listed .function ≤ f) × ((w : Program) → Readable (now b) w (now work) plan → listed .at + 80000 * sentencesBefore (suc f) (w .functions) ≤ limit + 80000 * sentencesBefore f (w .functions)) × (listed .count ≤ listed .at) × Remembering (now b) plan (now work) ⌝ }
+    ensures told { λ r. ⌜ ((w : Program) (x : Function) → Readable (now (b .entry)) w (now (work .entry)) plan → getElem? (w .functions) f ≡ some x → Undecided w (undecidedIn (isThere (fellOf plan (now (work .entry))) afterAll) (sitesOf w) (sentencesBefore f (w .functions)) x) (now (out .entry)) (listed .at) (listed .count) (listed .function) (listed .item) (now (out .exit)) (r .at) (r .count) (r .function) (r .item)) ⌝ }
+    ensures short { λ r. ⌜ ((w : Program) → Readable (now (b .entry)) w (now (work .entry)) plan → r .at + 80000 * sentencesBefore f (w .functions) ≤ listed .at + 80000 * sentencesBefore (suc f) (w .functions)) × (r .count ≤ r .at) × (r .function ≤ f) ⌝ }
+    ensures keeps { λ _. ⌜ Used (now (b .entry)) plan (now (work .entry)) (now (work .exit)) ⌝ }
+{
+    let end = first_sentence(work, plan, f + 1);
+    let mut s = first_sentence(work, plan, f);
+    let mut last = listed;
+    while s < end {
+        last = put_if_undecided(b, work, plan, f, s, out, last);
+        s += 1;
+    }
+    last
+}
+
+// The same, if a round would judge the f-th function: the others give nothing.
+fn put_if_judged(
+    b: &[u8],
+    work: &mut [u32],
+    plan: Plan,
+    f: usize,
+    out: &mut [u8],
+    listed: Listed,
+) -> Listed
+    requires { ⌜ SomeReadable (now b) (now work) plan × (f < plan .functions) × (listed .function ≤ f) × ((w : Program) → Readable (now b) w (now work) plan → listed .at + 80000 * sentencesBefore (suc f) (w .functions) ≤ limit + 80000 * sentencesBefore f (w .functions)) × (listed .count ≤ listed .at) × Remembering (now b) plan (now work) ⌝ }
+    ensures told { λ r. ⌜ ((w : Program) (x : Function) → Readable (now (b .entry)) w (now (work .entry)) plan → getElem? (w .functions) f ≡ some x → Undecided w (judgedOnly (isJudged (isThere (fellOf plan (now (work .entry))) afterAll) (x .name) (sitesOf w)) (undecidedIn (isThere (fellOf plan (now (work .entry))) afterAll) (sitesOf w) (sentencesBefore f (w .functions)) x)) (now (out .entry)) (listed .at) (listed .count) (listed .function) (listed .item) (now (out .exit)) (r .at) (r .count) (r .function) (r .item)) ⌝ }
+    ensures short { λ r. ⌜ ((w : Program) → Readable (now (b .entry)) w (now (work .entry)) plan → r .at + 80000 * sentencesBefore f (w .functions) ≤ listed .at + 80000 * sentencesBefore (suc f) (w .functions)) × (r .count ≤ r .at) × (r .function ≤ f) ⌝ }
+    ensures keeps { λ _. ⌜ Used (now (b .entry)) plan (now (work .entry)) (now (work .exit)) ⌝ }
+{
+    if !is_judged(work, plan, f, AFTER_ALL) {
+        return listed;
+    }
+    put_undecided_in(b, work, plan, f, out, listed)
+}
+
+// Every undecided sentence as a line, neighbouring repeats left out.
+pub fn put_undecided(b: &[u8], work: &mut [u32], plan: Plan, out: &mut [u8], at: usize) -> Listed
+    requires { ⌜ SomeReadable (now b) (now work) plan × (at + 8192 * 80000 ≤ limit) × Remembering (now b) plan (now work) ⌝ }
+    ensures told { λ r. ⌜ ((w : Program) → Readable (now (b .entry)) w (now (work .entry)) plan → Emitted (now (out .entry)) at (flatMap undecidedLine (runsAfter sameUndecided [] (undecidedTold (isThere (fellOf plan (now (work .entry))) afterAll) (sitesOf w) 0 (w .functions)))) (r .at) (now (out .exit))) ⌝ }
+    ensures counted { λ r. ⌜ ((w : Program) → Readable (now (b .entry)) w (now (work .entry)) plan → r .count ≡ length (runsAfter sameUndecided [] (undecidedTold (isThere (fellOf plan (now (work .entry))) afterAll) (sitesOf w) 0 (w .functions)))) ⌝ }
+    ensures short { λ r. ⌜ r .at ≤ at + 8192 * 80000 ⌝ }
+    ensures keeps { λ _. ⌜ Used (now (b .entry)) plan (now (work .entry)) (now (work .exit)) ⌝ }
+{
+    let mut last = Listed {
+        at: at,
+        count: 0,
+        function: 0,
+        item: plan.sentences,
+    };
+    let mut f: usize = 0;
+    while f < plan.functions {
+        last = put_if_judged(b, work, plan, f, out, last);
+        f += 1;
+    }
+    last
+}

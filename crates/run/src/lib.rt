@@ -1,1 +1,0 @@
-// The run of a program, and what cleaning keeps of it.

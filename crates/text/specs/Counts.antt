@@ -1,0 +1,25 @@
+-- The report's lines with numbers, in the pieces in which they are emitted.
+use Prim.Native.Nat.{ℕ}
+use mathlib.Core.List.{_++_}
+use Rattle.patterns.specs.Ascii.{ascii}
+use Rattle.meaning.specs.Text.{Text}
+use Rattle.meaning.specs.Decimal.{decimal}
+
+-- A number after its label.
+unfoldable pub counted : Text → ℕ → Text
+counted label n = label ++ decimal n
+
+-- The same on a line of its own.
+unfoldable pub countLine : Text → ℕ → Text
+countLine label n = counted label n ++ ascii "\n"
+
+-- "Lines give functions, own sentences before and after, rounds, each list's count": up to the first list.
+unfoldable pub topText : ℕ → ℕ → ℕ → ℕ → ℕ → Text
+topText functions before after rounds removed =
+    counted (ascii "functions: ") functions
+    ++ (counted (ascii "\nsentences: ") before ++ (counted (ascii " -> ") after ++ (counted (ascii "\nrounds: ") rounds ++ countLine (ascii "\nremoved: ") removed)))
+
+-- "Any `Mu` or `Up` call: same bytes out, rounds 0, verdict unknown": all lines of such a program.
+unfoldable pub unchangedText : ℕ → ℕ → Text
+unchangedText functions sentences =
+    topText functions sentences sentences 0 0 ++ (countLine (ascii "undecided: ") 0 ++ (countLine (ascii "uncovered: ") 0 ++ ascii "dynamic-dispatch: yes (nothing cleaned)\ngraph: unknown\n"))

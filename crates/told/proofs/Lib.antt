@@ -1,0 +1,12 @@
+pub mod Asked
+pub mod AtMost
+pub mod Fallen
+pub mod Kept
+pub mod KeptSites
+pub mod History
+pub mod Numbered
+pub mod ReportLists
+pub mod ToldFinal
+pub mod ToldNames
+pub mod ToldRemoved
+pub mod ToldReport

@@ -13,9 +13,9 @@ use Rattle.program.specs.Decode.{Answer, sized, decode}
 use Rattle.image.specs.Parts.{Accepted}
 use Rattle.program.specs.Encode.{encode}
 use Rattle.program.specs.Bytes.{Bytes}
-use Rattle.image.specs.Tally.{checkedOf}
-use Rattle.image.specs.Steps.{refusal}
-use Rattle.image.specs.declared.reader.Checked.{Checked}
+use Rattle.reader.specs.Tally.{checkedOf}
+use Rattle.reader.specs.Steps.{refusal}
+use Rattle.reader.specs.declared.check.Checked.{Checked}
 use Rattle.program.specs.declared.Refusal.{Refusal}
 use Rattle.meaning.specs.Cleaning.{cleanResidualProgram}
 use Rattle.meaning.specs.CleanReport.{cleanReport}

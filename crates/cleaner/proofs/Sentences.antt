@@ -12,10 +12,10 @@ use Rattle.program.specs.Limits.{Mode, ValidFunctions}
 use Rattle.program.specs.Decode.{Answer, decode}
 use Rattle.image.specs.Parts.{TermsAt, putSentence, FunctionsAt, Stands, FoundIn, Accepted}
 use Rattle.program.specs.Sentences.{Sentence, ownSentences}
-use Rattle.image.specs.Tally.{checkedOf}
-use Rattle.image.specs.Steps.{refusal}
+use Rattle.reader.specs.Tally.{checkedOf}
+use Rattle.reader.specs.Steps.{refusal}
 use Rattle.image.specs.declared.part.Found as places
-use Rattle.image.specs.declared.reader.Checked.{Checked}
+use Rattle.reader.specs.declared.check.Checked.{Checked}
 use Rattle.program.specs.declared.Refusal.{Refusal}
 use Rattle.program.proofs.Lengths.{head-length}
 use Rattle.program.proofs.RoundTrip.{encode-decode}

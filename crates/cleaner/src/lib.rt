@@ -10,10 +10,10 @@ use answers::Comparison;
 use answers::Lengths;
 use answers::OverlapAnswer;
 use image::part::Found as Place;
-use image::reader::Checked;
 use overlap::Room;
 use patterns::Verdict;
 use program::Refusal;
+use reader::check::Checked;
 ghost use mathlib.Core.Path.{_≡_};
 ghost use Prim.Native.Nat.{_≤_};
 ghost use lib.ListN.{length};
@@ -50,7 +50,7 @@ pub fn clean(img: &[u8], output: &mut [u8], work: &mut [u32], report: &mut [u8])
     if work.len() < (img.len() + 3) / 4 {
         return refused(3, 0);
     }
-    let v = image::reader::check(img);
+    let v = reader::check::check(img);
     match v {
         Checked::Refused(f) => CleanAnswer::Refused(f),
         Checked::Accepted => whole::clean_accepted(img, output, work, report),
@@ -109,7 +109,7 @@ fn overlap_accepted(img: &[u8], first: usize, second: usize) -> OverlapAnswer
 pub fn overlap(img: &[u8], first: usize, second: usize) -> OverlapAnswer
     ensures { λ r. ⌜ r ≡ overlapAnswer (now (img .entry)) first second ⌝ }
 {
-    let v = image::reader::check(img);
+    let v = reader::check::check(img);
     match v {
         Checked::Refused(f) => OverlapAnswer::Refused(f),
         Checked::Accepted => overlap_accepted(img, first, second),

@@ -1,11 +1,3 @@
-pub mod Refusals
-pub mod Steps
-pub mod Turns
-pub mod Helpers
-pub mod Walk
-pub mod Loop
-pub mod Flat
-pub mod Answers
 pub mod Skip
 pub mod Readings
 pub mod Accepted

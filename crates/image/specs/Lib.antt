@@ -1,4 +1,2 @@
 pub mod Parts
-pub mod Steps
-pub mod Tally
 pub mod Skip

@@ -1,4 +1,3 @@
-// The image: its reader, and the parts that the layers above take from it.
+// The image: the parts that the layers above take from it.
 pub mod number;
 pub mod part;
-pub mod reader;

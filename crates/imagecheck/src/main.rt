@@ -1,7 +1,7 @@
 // Reads an image from standard input and says whether it is accepted, or why it is refused.
-use image::reader::Checked;
 use libc::STDIN_FILENO;
 use libc::STDOUT_FILENO;
+use reader::check::Checked;
 
 fn wide(x: u8) -> u64 {
     x as u64
@@ -10,7 +10,7 @@ fn wide(x: u8) -> u64 {
 fn main() {
     let mut buf = io::large_buffer();
     let n = io::read_full(STDIN_FILENO, &mut buf);
-    let v = image::reader::check(&buf[..n]);
+    let v = reader::check::check(&buf[..n]);
     match v {
         Checked::Refused(f) => {
             io::write_all(STDOUT_FILENO, b"refused ");

@@ -2,7 +2,7 @@
 // and that script says how a record is laid out.
 use crate::records::Asked;
 use crate::records::pair;
-use image::reader::Checked;
+use reader::check::Checked;
 
 // A record: the length of the image that follows (0: the image before stays), one byte to change for
 // this question alone, and the answer.
@@ -26,7 +26,7 @@ fn read_question(h: &[u8; 8]) -> Question {
 
 // Whether the reader answers the image as it should.
 fn is_answered(img: &[u8], number: u8, place: usize) -> bool {
-    let v = image::reader::check(img);
+    let v = reader::check::check(img);
     match v {
         Checked::Refused(f) => {
             if f.number == number {

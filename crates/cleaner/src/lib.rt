@@ -1,9 +1,9 @@
 // The entry points: every image and number is answered, and nothing is asked of the caller.
-mod alone;
 mod boundary;
-mod listed;
-mod told;
-mod whole;
+mod delivery;
+mod rounds;
+mod steps;
+mod unchanged;
 
 use answers::CleanAnswer;
 use answers::Comparison;
@@ -53,7 +53,7 @@ pub fn clean(img: &[u8], output: &mut [u8], work: &mut [u32], report: &mut [u8])
     let v = reader::check::check(img);
     match v {
         Checked::Refused(f) => CleanAnswer::Refused(f),
-        Checked::Accepted => whole::clean_accepted(img, output, work, report),
+        Checked::Accepted => steps::clean_residual_program(img, output, work, report),
     }
 }
 

@@ -19,7 +19,7 @@ use Rattle.told.specs.Calls.{isListed}
 use Rattle.index.specs.Links.{listHead, entryNext}
 use Rattle.index.proofs.First.{Element, element-at, element-below, element-same, first-any}
 use Rattle.told.specs.History.{isThere}
-use Rattle.told.specs.Asked.{opens, restricts, isJudged}
+use Rattle.told.specs.Asked.{uncharacterises, restricts, isJudged}
 use Rattle.cleaning.specs.Indexed.{Indexed}
 use Rattle.cleaning.specs.Walks.{Walkable, SomeWalk, isThereListed, witnessFrom}
 use Rattle.cleaning.proofs.Indexed.{indexed-walkable}
@@ -141,9 +141,9 @@ module _ {b : List ℕ} {w : Program} {m : List ℕ} {p : Plan} (d : Indexed b w
 
 module _ (keep : ℕ → Bool) (f : Name) (sites : List Held) (opening : ℕ) (o : First (isThereListed keep false f) 0 sites opening) where
   pub judged-open : opening < length sites → false ≡ isJudged keep f sites
-  unfolding isJudged opens
+  unfolding isJudged uncharacterises
   judged-open h = sym (ap (λ (t : Bool). not t && any (restricts keep f) sites) (first-any o ∙ lt-ltb opening (length sites) h))
 
   pub judged-plain : length sites ≤ opening → (plain : ℕ) → First (isThereListed keep true f) 0 sites plain → ltb plain (length sites) ≡ isJudged keep f sites
-  unfolding isJudged opens restricts
+  unfolding isJudged uncharacterises restricts
   judged-plain h plain g = sym (ap₂ (λ (t u : Bool). not t && u) (first-any o ∙ le-ltb opening (length sites) h) (first-any g))

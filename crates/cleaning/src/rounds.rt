@@ -159,7 +159,7 @@ fn clean_once(b: &[u8], work: &mut [u32], plan: Plan, root: usize, round: usize)
 }
 
 // All rounds; how many. They end with the first that drops nothing, which is counted.
-pub fn clean_residual_program(b: &[u8], work: &mut [u32], plan: Plan, root: usize) -> usize
+pub fn clean_rounds(b: &[u8], work: &mut [u32], plan: Plan, root: usize) -> usize
     requires { ⌜ SomeRoundsReady (now b) (now work) plan root × (length (now b) ≤ 32768) × Remembering (now b) plan (now work) ⌝ }
     ensures made { λ r. ⌜ ((w : Program) → RoundsReady (now (b .entry)) w (now (work .entry)) plan root → RoundsMade w (now (work .entry)) (now (work .exit)) plan r) ⌝ }
     ensures remembers { λ _. ⌜ Remembering (now (b .entry)) plan (now (work .exit)) ⌝ }

@@ -28,9 +28,9 @@ use Rattle.meaning.specs.Cleaning.{isDisjoint}
 use Rattle.meaning.specs.Text.{Text, formatTerms}
 use Rattle.meaning.specs.CleanReport.{RemovedSentence, UndecidedSentence, UncoveredRestriction}
 use Rattle.told.specs.KeptSites.{keptSites}
-use Rattle.told.specs.Asked.{opens, isJudged}
+use Rattle.told.specs.Asked.{uncharacterises, isJudged}
 use Rattle.told.specs.History.{isThere, numbered}
-use Rattle.told.specs.ToldReport.{Fallen, fallenOf, fallenIn, fallenFrom, restrictionsAt, removedOf, sameFallen, overlaps, judgedOnly, undecidedIn, uncoveredIn, undecidedTold, uncoveredTold, openedNames}
+use Rattle.told.specs.ToldReport.{Fallen, fallenOf, fallenIn, fallenFrom, restrictionsAt, removedOf, sameFallen, overlaps, judgedOnly, undecidedIn, uncoveredIn, undecidedTold, uncoveredTold, uncharacterisedNames}
 use Rattle.meaning.specs.Report.{join, angled, removedLine, undecidedLine, uncoveredLine, uncharacterisedLine}
 use Rattle.text.proofs.Formatting.{text-fits}
 use Rattle.report.specs.Emitting.{Readable}
@@ -212,13 +212,13 @@ module _ (keep : ℕ → Bool) (sites : List Held) where
         let t = isJudged keep (x .name) sites in
         most-more (omega arith) (most-append (judgedOnly t (uncoveredIn keep sites i x)) (uncoveredTold keep sites j fs) (most-judged t (uncovered-in i x (e .0))) (uncovered-most j fs (e .1)))
 
-opened-among : (root : ℕ) (sites : List Held) (fs : List Function) (k : ℕ) → Among (openedNames root sites k fs) (map (λ x. x .name) fs)
-unfolding openedNames
-opened-among root sites [] k = Among.nothing
-opened-among root sites (x ∷ fs) k =
-    let a = opened-among root sites fs (suc k) in
-    either (not (eqb k root) && any (opens (λ s. true) (x .name)) sites) (Among.taken a) (Among.passed a)
+uncharacterised-among : (root : ℕ) (sites : List Held) (fs : List Function) (k : ℕ) → Among (uncharacterisedNames root sites k fs) (map (λ x. x .name) fs)
+unfolding uncharacterisedNames
+uncharacterised-among root sites [] k = Among.nothing
+uncharacterised-among root sites (x ∷ fs) k =
+    let a = uncharacterised-among root sites fs (suc k) in
+    either (not (eqb k root) && any (uncharacterises (λ s. true) (x .name)) sites) (Among.taken a) (Among.passed a)
 
-pub opened-most : (root : ℕ) (sites : List Held) (fs : List Function) → Each FunctionFits fs → AtMost Fits (length fs) (firsts sameName (openedNames root sites 0 fs))
-opened-most root sites fs e =
-    most-among (firsts-among sameName (openedNames root sites 0 fs)) (most-among (opened-among root sites fs 0) (most-map FunctionFits Fits (λ x. x .name) fs (λ x f. f .0) (record { each = e; few = omega arith })))
+pub uncharacterised-most : (root : ℕ) (sites : List Held) (fs : List Function) → Each FunctionFits fs → AtMost Fits (length fs) (firsts sameName (uncharacterisedNames root sites 0 fs))
+uncharacterised-most root sites fs e =
+    most-among (firsts-among sameName (uncharacterisedNames root sites 0 fs)) (most-among (uncharacterised-among root sites fs 0) (most-map FunctionFits Fits (λ x. x .name) fs (λ x f. f .0) (record { each = e; few = omega arith })))

@@ -7,7 +7,7 @@ pub mod UncoveredLists
 pub mod UncoveredLoops
 pub mod UndecidedLists
 pub mod UndecidedLoops
-pub mod Opened
+pub mod Uncharacterised
 pub mod FallenList
 pub mod Repeating
 pub mod RemovedLines

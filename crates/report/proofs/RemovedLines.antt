@@ -10,7 +10,7 @@ use lib.Dec.{eqb}
 use lib.ListN.{drop, getElem?, length, length-append, drop-of-length-le}
 use Rattle.told.proofs.Asked.{restricted-is, isRestricted}
 use Rattle.cleaning.proofs.Owned.{before-next}
-use Rattle.told.specs.Asked.{isJudged, isRejected, meets, opens, restricts}
+use Rattle.told.specs.Asked.{isJudged, isRejected, meets, uncharacterises, restricts}
 use Rattle.meaning.specs.Cleaning.{rejected, round}
 use Rattle.told.specs.History.{FunctionsLeft, SentencesLeft, Told, isThere, rejects, someAccepted}
 use Rattle.told.specs.Numbered.{sitesOf, sentencesBefore, Held}
@@ -95,7 +95,7 @@ module _ (w : Program) (fell : ℕ → ℕ) (n r : ℕ) (h : Told w fell n) (p :
       let a = by (isThere fell r s) (isThere fell (suc r) s) (rejects (rootPlace w) (isThere fell r) (sitesOf w) (l .place) (x .name) (y .pattern)) (l .others) there-now there-no-more (l .is) in
       let b = and-eq-true-iff (not (eqb (l .place) (rootPlace w))) (isRejected (isThere fell r) (x .name) (sitesOf w) (y .pattern)) .0 a .1 in
       let c = and-eq-true-iff (isJudged (isThere fell r) (x .name) (sitesOf w)) (not (any (meets (isThere fell r) (x .name) (y .pattern)) (sitesOf w))) .0 b .0 in
-      and-eq-true-iff (not (any (opens (isThere fell r) (x .name)) (sitesOf w))) (any (restricts (isThere fell r) (x .name)) (sitesOf w)) .0 c .1
+      and-eq-true-iff (not (any (uncharacterises (isThere fell r) (x .name)) (sitesOf w))) (any (restricts (isThere fell r) (x .name)) (sitesOf w)) .0 c .1
     where
       by : (k m a b : Bool) → k ≡ true → m ≡ false → m ≡ (k && not (a && b)) → a ≡ true
       by true true a b u v z = absurd (true≢false v)

@@ -24,7 +24,7 @@ use Rattle.meaning.proofs.Decimal.{decimal-length}
 use Rattle.report.specs.Emitting.{Readable}
 use Rattle.told.proofs.AtMost.{runs-among, most-among, flatten-length, lines-length}
 use Rattle.told.proofs.Fallen.{start-count}
-use Rattle.report.proofs.Fits.{functions-fit, sites-fit, removed-most, undecided-most, uncovered-most, opened-most, uncharacterised-line}
+use Rattle.report.proofs.Fits.{functions-fit, sites-fit, removed-most, undecided-most, uncovered-most, uncharacterised-most, uncharacterised-line}
 
 clean-length : (u v : ℕ) → u < 100000000000000000 → v < 100000000000000000 → length (graphLine (Perfection.clean u v)) ≤ 72
 unfolding graphLine ascii
@@ -107,7 +107,7 @@ report-short {b} {w} {m} {p} d fell n h =
     let x = removed-most fell w n e s in
     let y = most-among (runs-among sameUndecided (undecidedTold keep (sitesOf w) 0 (w .functions)) []) (undecided-most keep (sitesOf w) 0 (w .functions) e) in
     let z = most-among (runs-among sameUncovered (uncoveredTold keep (sitesOf w) 0 (w .functions)) []) (uncovered-most keep (sitesOf w) s 0 (w .functions) e) in
-    let o = opened-most (rootPlace w) (sitesOf w) (w .functions) e in
+    let o = uncharacterised-most (rootPlace w) (sitesOf w) (w .functions) e in
     let functions : length (w .functions) ≡ p .functions = d .indexed .functions in
     let sentences : ownSentenceCount (w .functions) ≡ p .sentences = sym (own-counted (w .functions)) ∙ d .indexed .sentences in
     let few : p .functions + (p .sentences + p .sites) ≤ 4096 = omega (arith, d .indexed .fits, d .indexed .small) in

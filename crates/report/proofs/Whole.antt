@@ -17,7 +17,7 @@ use Rattle.meaning.specs.Text.{Text}
 use Rattle.meaning.specs.CleanReport.{RemovedSentence, UndecidedSentence, UncoveredRestriction, CleanReport, sameUndecided, sameUncovered}
 use Rattle.told.specs.History.{isThere, afterAll}
 use Rattle.told.specs.Numbered.{sitesOf}
-use Rattle.told.specs.ToldReport.{fallenFrom, sameFallen, removedOf, undecidedTold, uncoveredTold, runsAfter, openedNames, toldReport}
+use Rattle.told.specs.ToldReport.{fallenFrom, sameFallen, removedOf, undecidedTold, uncoveredTold, runsAfter, uncharacterisedNames, toldReport}
 use Rattle.told.proofs.History.{there-after}
 use Rattle.text.specs.Counts.{countLine, topText}
 use Rattle.text.specs.Fill.{Emitted}
@@ -137,13 +137,13 @@ report-whole r =
 
 pub whole-told : (w : Program) (fell : ℕ → ℕ) (n : ℕ) (p : Plan) (root : ℕ) (g : Figures) → FiguresOf (toldReport w fell n) g → length (w .functions) ≡ p .functions → length (ownSentences (w .functions)) ≡ p .sentences → root ≡ rootPlace w
     → topText (p .functions) (p .sentences) (g .after) n (g .removed)
-    ++ (listsText (toldReport w fell n) ++ (uncharacterisedLine (firsts sameName (openedNames root (sitesOf w) 0 (w .functions))) ++ graphLine (perfection false (g .undecided) (g .uncovered)))) ≡ formatCleanReport (toldReport w fell n)
+    ++ (listsText (toldReport w fell n) ++ (uncharacterisedLine (firsts sameName (uncharacterisedNames root (sitesOf w) 0 (w .functions))) ++ graphLine (perfection false (g .undecided) (g .uncovered)))) ≡ formatCleanReport (toldReport w fell n)
 unfolding toldReport lastLines dispatchLine
 whole-told w fell n p root g f e h k =
     let functions = sym e in
     let sentences = sym h ∙ own-counted (w .functions) in
     (λ i. topText (functions i) (sentences i) (f .after i) n (f .removed i)
-    ++ (listsText (toldReport w fell n) ++ (uncharacterisedLine (firsts sameName (openedNames (k i) (sitesOf w) 0 (w .functions))) ++ graphLine (perfection false (f .undecided i) (f .uncovered i)))))
+    ++ (listsText (toldReport w fell n) ++ (uncharacterisedLine (firsts sameName (uncharacterisedNames (k i) (sitesOf w) 0 (w .functions))) ++ graphLine (perfection false (f .undecided i) (f .uncovered i)))))
     ∙ report-whole (toldReport w fell n)
 
 -- The same, with the uncharacterised functions beside the lists, as it is written.
@@ -151,5 +151,5 @@ pub whole-listed : (w : Program) (fell : ℕ → ℕ) (n : ℕ) (p : Plan) (root
     → topText (p .functions) (p .sentences) (g .after) n (g .removed) ++ (listedText w root fell n ++ graphLine (perfection false (g .undecided) (g .uncovered))) ≡ formatCleanReport (toldReport w fell n)
 unfolding listedText
 whole-listed w fell n p root g f e h k =
-    ap (λ (t : Text). topText (p .functions) (p .sentences) (g .after) n (g .removed) ++ t) (append-assoc (listsText (toldReport w fell n)) (uncharacterisedLine (firsts sameName (openedNames root (sitesOf w) 0 (w .functions)))) (graphLine (perfection false (g .undecided) (g .uncovered))))
+    ap (λ (t : Text). topText (p .functions) (p .sentences) (g .after) n (g .removed) ++ t) (append-assoc (listsText (toldReport w fell n)) (uncharacterisedLine (firsts sameName (uncharacterisedNames root (sitesOf w) 0 (w .functions)))) (graphLine (perfection false (g .undecided) (g .uncovered))))
     ∙ whole-told w fell n p root g f e h k

@@ -9,7 +9,7 @@ use Rattle.meaning.specs.Lists.{firsts}
 use Rattle.meaning.specs.Text.{Text}
 use Rattle.meaning.specs.CleanReport.{CleanReport}
 use Rattle.told.specs.Numbered.{sitesOf}
-use Rattle.told.specs.ToldReport.{openedNames, toldReport}
+use Rattle.told.specs.ToldReport.{uncharacterisedNames, toldReport}
 use Rattle.text.specs.Counts.{countLine}
 use Rattle.meaning.specs.Report.{removedLine, undecidedLine, uncoveredLine, uncharacterisedLine}
 
@@ -21,4 +21,4 @@ listsText r =
 
 -- The lists of the report that the rounds of p tell, and the line of uncharacterised functions.
 unfoldable pub listedText : Program → ℕ → (ℕ → ℕ) → ℕ → Text
-listedText p root fell n = listsText (toldReport p fell n) ++ uncharacterisedLine (firsts sameName (openedNames root (sitesOf p) 0 (p .functions)))
+listedText p root fell n = listsText (toldReport p fell n) ++ uncharacterisedLine (firsts sameName (uncharacterisedNames root (sitesOf p) 0 (p .functions)))

@@ -10,16 +10,16 @@ use Rattle.patterns.specs.Names.{sameName}
 use Rattle.meaning.specs.Lists.{any}
 use Rattle.told.specs.Numbered.{Held, sitesOf}
 use Rattle.meaning.specs.Text.{Text}
-use Rattle.told.specs.Asked.{opens}
-use Rattle.told.specs.ToldReport.{openedNames}
+use Rattle.told.specs.Asked.{uncharacterises}
+use Rattle.told.specs.ToldReport.{uncharacterisedNames}
 
--- A site opens the f-th function x, which is not the root.
-unfoldable pub isOpened : ℕ → List Held → ℕ → Function → Bool
-isOpened root sites f x = not (eqb f root) && any (opens (λ s. true) (x .name)) sites
+-- A site uncharacterises the f-th function x, which is not the root.
+unfoldable pub isUncharacterised : ℕ → List Held → ℕ → Function → Bool
+isUncharacterised root sites f x = not (eqb f root) && any (uncharacterises (λ s. true) (x .name)) sites
 
 -- The same, and no earlier one has its name: "each name once".
-unfoldable pub isNewlyOpened : ℕ → Program → ℕ → Function → Bool
-isNewlyOpened root w f x = isOpened root (sitesOf w) f x && not (any (λ n. sameName n (x .name)) (openedNames root (sitesOf w) 0 (take f (w .functions))))
+unfoldable pub isNewlyUncharacterised : ℕ → Program → ℕ → Function → Bool
+isNewlyUncharacterised root w f x = isUncharacterised root (sitesOf w) f x && not (any (λ n. sameName n (x .name)) (uncharacterisedNames root (sitesOf w) 0 (take f (w .functions))))
 
 -- What stands before the first name, and before each other.
 unfoldable pub lead : Bool → Text
@@ -27,8 +27,8 @@ lead true = ascii "uncharacterised: "
 lead false = ascii ", "
 
 -- What the f-th function x adds to the line.
-unfoldable pub openedText : ℕ → Program → ℕ → Function → Bool → Text
-openedText root w f x first = cond (isNewlyOpened root w f x) (lead first ++ x .name) []
+unfoldable pub uncharacterisedText : ℕ → Program → ℕ → Function → Bool → Text
+uncharacterisedText root w f x first = cond (isNewlyUncharacterised root w f x) (lead first ++ x .name) []
 
 -- The end of the line, if it has a name.
 unfoldable pub lineEnd : Bool → Text

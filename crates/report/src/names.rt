@@ -18,19 +18,19 @@ ghost use lib.ListN.{getElem?, take};
 ghost use Rattle.program.specs.Syntax.{Function, Program};
 ghost use Rattle.patterns.specs.Names.{sameName};
 ghost use Rattle.meaning.specs.Lists.{any, firsts};
-ghost use Rattle.told.specs.Asked.{opens};
+ghost use Rattle.told.specs.Asked.{uncharacterises};
 ghost use Rattle.told.specs.Numbered.{sitesOf};
 ghost use Rattle.cleaning.specs.Indexed.{Indexed, SomeBody};
-ghost use Rattle.told.specs.ToldReport.{openedNames};
+ghost use Rattle.told.specs.ToldReport.{uncharacterisedNames};
 ghost use Rattle.text.specs.Fill.{Emitted, limit};
 ghost use Rattle.meaning.specs.Report.{uncharacterisedLine};
 ghost use Rattle.report.specs.Emitting.{Readable, SomeReadable};
-ghost use Rattle.report.specs.Names.{isOpened, isNewlyOpened, lead, openedText, lineEnd};
+ghost use Rattle.report.specs.Names.{isUncharacterised, isNewlyUncharacterised, lead, uncharacterisedText, lineEnd};
 
-// Whether a site opens the f-th function.
-fn is_opened(work: &[u32], plan: Plan, f: usize) -> bool
+// Whether a site uncharacterises the f-th function.
+fn has_call_in_argument(work: &[u32], plan: Plan, f: usize) -> bool
     requires { ⌜ SomeBody (now work) plan × (f < plan .functions) ⌝ }
-    ensures { λ r. ⌜ ((b : List ℕ) (w : Program) (x : Function) → Indexed b w (now (work .entry)) plan → getElem? (w .functions) f ≡ some x → r ≡ any (opens (λ s. true) (x .name)) (sitesOf w)) ⌝ }
+    ensures { λ r. ⌜ ((b : List ℕ) (w : Program) (x : Function) → Indexed b w (now (work .entry)) plan → getElem? (w .functions) f ≡ some x → r ≡ any (uncharacterises (λ s. true) (x .name)) (sitesOf w)) ⌝ }
 {
     head_site(work, plan.functions, f, false) < plan.sites
 }
@@ -38,18 +38,18 @@ fn is_opened(work: &[u32], plan: Plan, f: usize) -> bool
 // The same of a function that is not the root.
 fn is_uncharacterised(work: &[u32], plan: Plan, root: usize, f: usize) -> bool
     requires { ⌜ SomeBody (now work) plan × (f < plan .functions) ⌝ }
-    ensures { λ r. ⌜ ((b : List ℕ) (w : Program) (x : Function) → Indexed b w (now (work .entry)) plan → getElem? (w .functions) f ≡ some x → r ≡ isOpened root (sitesOf w) f x) ⌝ }
+    ensures { λ r. ⌜ ((b : List ℕ) (w : Program) (x : Function) → Indexed b w (now (work .entry)) plan → getElem? (w .functions) f ≡ some x → r ≡ isUncharacterised root (sitesOf w) f x) ⌝ }
 {
     if f == root {
         return false;
     }
-    is_opened(work, plan, f)
+    has_call_in_argument(work, plan, f)
 }
 
 // Whether the g-th function is listed under the name of the f-th.
 fn is_namesake(b: &[u8], work: &[u32], plan: Plan, root: usize, g: usize, f: usize) -> bool
     requires { ⌜ SomeReadable (now b) (now work) plan × (g < plan .functions) × (f < plan .functions) ⌝ }
-    ensures { λ r. ⌜ ((w : Program) (y x : Function) → Readable (now (b .entry)) w (now (work .entry)) plan → getElem? (w .functions) g ≡ some y → getElem? (w .functions) f ≡ some x → r ≡ (isOpened root (sitesOf w) g y && sameName (y .name) (x .name))) ⌝ }
+    ensures { λ r. ⌜ ((w : Program) (y x : Function) → Readable (now (b .entry)) w (now (work .entry)) plan → getElem? (w .functions) g ≡ some y → getElem? (w .functions) f ≡ some x → r ≡ (isUncharacterised root (sitesOf w) g y && sameName (y .name) (x .name))) ⌝ }
 {
     if is_uncharacterised(work, plan, root, g) {
         return same_names(b, work, plan, g, f);
@@ -60,7 +60,7 @@ fn is_namesake(b: &[u8], work: &[u32], plan: Plan, root: usize, g: usize, f: usi
 // Whether an earlier function is listed under the name of the f-th.
 fn is_named_before(b: &[u8], work: &[u32], plan: Plan, root: usize, f: usize) -> bool
     requires { ⌜ SomeReadable (now b) (now work) plan × (f < plan .functions) ⌝ }
-    ensures { λ r. ⌜ ((w : Program) (x : Function) → Readable (now (b .entry)) w (now (work .entry)) plan → getElem? (w .functions) f ≡ some x → r ≡ any (λ n. sameName n (x .name)) (openedNames root (sitesOf w) 0 (take f (w .functions)))) ⌝ }
+    ensures { λ r. ⌜ ((w : Program) (x : Function) → Readable (now (b .entry)) w (now (work .entry)) plan → getElem? (w .functions) f ≡ some x → r ≡ any (λ n. sameName n (x .name)) (uncharacterisedNames root (sitesOf w) 0 (take f (w .functions)))) ⌝ }
 {
     let mut g = 0;
     while g < f {
@@ -73,9 +73,9 @@ fn is_named_before(b: &[u8], work: &[u32], plan: Plan, root: usize, f: usize) ->
 }
 
 // Whether the f-th function is the first that is listed under its name.
-fn is_newly_opened(b: &[u8], work: &[u32], plan: Plan, root: usize, f: usize) -> bool
+fn is_newly_uncharacterised(b: &[u8], work: &[u32], plan: Plan, root: usize, f: usize) -> bool
     requires { ⌜ SomeReadable (now b) (now work) plan × (f < plan .functions) ⌝ }
-    ensures { λ r. ⌜ ((w : Program) (x : Function) → Readable (now (b .entry)) w (now (work .entry)) plan → getElem? (w .functions) f ≡ some x → r ≡ isNewlyOpened root w f x) ⌝ }
+    ensures { λ r. ⌜ ((w : Program) (x : Function) → Readable (now (b .entry)) w (now (work .entry)) plan → getElem? (w .functions) f ≡ some x → r ≡ isNewlyUncharacterised root w f x) ⌝ }
 {
     if is_uncharacterised(work, plan, root, f) {
         return !is_named_before(b, work, plan, root, f);
@@ -95,7 +95,7 @@ fn put_lead(out: &mut [u8], at: usize, first: bool) -> usize
 }
 
 // The f-th function, if it is listed; the line begins at `from`.
-fn put_opened(
+fn put_if_uncharacterised(
     b: &[u8],
     work: &[u32],
     plan: Plan,
@@ -106,10 +106,10 @@ fn put_opened(
     at: usize,
 ) -> usize
     requires { ⌜ SomeReadable (now b) (now work) plan × (f < plan .functions) × (at + 32785 ≤ limit) ⌝ }
-    ensures written { λ r. ⌜ ((w : Program) (x : Function) → Readable (now (b .entry)) w (now (work .entry)) plan → getElem? (w .functions) f ≡ some x → Emitted (now (out .entry)) at (openedText root w f x (eqb at from)) r (now (out .exit))) ⌝ }
+    ensures written { λ r. ⌜ ((w : Program) (x : Function) → Readable (now (b .entry)) w (now (work .entry)) plan → getElem? (w .functions) f ≡ some x → Emitted (now (out .entry)) at (uncharacterisedText root w f x (eqb at from)) r (now (out .exit))) ⌝ }
     ensures short { λ r. ⌜ r ≤ at + 32785 ⌝ }
 {
-    if is_newly_opened(b, work, plan, root, f) {
+    if is_newly_uncharacterised(b, work, plan, root, f) {
         let name = put_lead(out, at, at == from);
         return put_name(b, work, plan, f, out, name);
     }
@@ -137,13 +137,13 @@ pub fn put_uncharacterised(
     at: usize,
 ) -> usize
     requires { ⌜ SomeReadable (now b) (now work) plan × (at + 8192 * 32800 ≤ limit) ⌝ }
-    ensures written { λ r. ⌜ ((w : Program) → Readable (now (b .entry)) w (now (work .entry)) plan → Emitted (now (out .entry)) at (uncharacterisedLine (firsts sameName (openedNames root (sitesOf w) 0 (w .functions)))) r (now (out .exit))) ⌝ }
+    ensures written { λ r. ⌜ ((w : Program) → Readable (now (b .entry)) w (now (work .entry)) plan → Emitted (now (out .entry)) at (uncharacterisedLine (firsts sameName (uncharacterisedNames root (sitesOf w) 0 (w .functions)))) r (now (out .exit))) ⌝ }
     ensures short { λ r. ⌜ r ≤ at + 8192 * 32800 ⌝ }
 {
     let mut place = at;
     let mut f = 0;
     while f < plan.functions {
-        place = put_opened(b, work, plan, root, f, out, at, place);
+        place = put_if_uncharacterised(b, work, plan, root, f, out, at, place);
         f += 1;
     }
     put_line_end(out, at, place)

@@ -17,7 +17,7 @@ use Rattle.meaning.proofs.Verdicts.{same-verdict}
 use Rattle.meaning.specs.Cleaning.{isDisjoint, Standing, restricted, standing, rejected}
 use Rattle.told.specs.KeptSites.{keptSites}
 use Rattle.told.specs.Calls.{isCallOf, isPlain, isListed}
-use Rattle.told.specs.Asked.{opens, restricts, isMet, meets, isJudged, isRejected}
+use Rattle.told.specs.Asked.{uncharacterises, restricts, isMet, meets, isJudged, isRejected}
 
 -- A test of all, of those selected, and of the first of each, as a test of some.
 pub all-any : {A : Type 0} (test : A → Bool) (l : List A) → all test l ≡ not (any (λ x. not (test x)) l)
@@ -99,9 +99,9 @@ module _ (keep : ℕ → Bool) (f : Name) (sites : List Held) where
       ∙ select-any (λ x. sameName (x .callee) f) (λ x. test (x .argument)) (keptSites keep sites)
       ∙ kept-any keep (λ x. sameName (x .callee) f && test (x .argument)) sites
 
-  pub opened-is : enteringRestrictions f (keptSites keep sites) .characterised ≡ not (any (opens keep f) sites)
-  unfolding enteringRestrictions opens isListed isPlain
-  opened-is = all-any restrictionIsCharacterisable (entering f (keptSites keep sites)) ∙ ap not (entering-any (λ a. not (restrictionIsCharacterisable a)))
+  pub uncharacterised-is : enteringRestrictions f (keptSites keep sites) .characterised ≡ not (any (uncharacterises keep f) sites)
+  unfolding enteringRestrictions uncharacterises isListed isPlain
+  uncharacterised-is = all-any restrictionIsCharacterisable (entering f (keptSites keep sites)) ∙ ap not (entering-any (λ a. not (restrictionIsCharacterisable a)))
 
   -- A test that repeats pass alike.
   pub restrictions-any : (test : Terms → Bool) → ((a b : Terms) → sameConfiguration a b ≡ true → test a ≡ test b)
@@ -129,28 +129,28 @@ module _ (keep : ℕ → Bool) (f : Name) (sites : List Held) where
       all-any (λ r. isDisjoint (patternsOverlap p r)) (enteringRestrictions f (keptSites keep sites) .restrictions)
       ∙ ap not (restrictions-any (λ r. not (isDisjoint (patternsOverlap p r))) (λ a b e. ap (λ v. not (isDisjoint v)) (same-verdict p a b e)))
 
-  pub standing-open : any (opens keep f) sites ≡ true → standing false (enteringRestrictions f (keptSites keep sites)) ≡ Standing.uncharacterised
+  pub standing-open : any (uncharacterises keep f) sites ≡ true → standing false (enteringRestrictions f (keptSites keep sites)) ≡ Standing.uncharacterised
   unfolding standing
   standing-open e =
-      standing-uncharacterised (enteringRestrictions f (keptSites keep sites) .characterised) (enteringRestrictions f (keptSites keep sites) .restrictions) (opened-is ∙ ap not e)
+      standing-uncharacterised (enteringRestrictions f (keptSites keep sites) .characterised) (enteringRestrictions f (keptSites keep sites) .restrictions) (uncharacterised-is ∙ ap not e)
 
-  pub standing-passed : any (opens keep f) sites ≡ false → any (restricts keep f) sites ≡ false → standing false (enteringRestrictions f (keptSites keep sites)) ≡ Standing.passedOver
+  pub standing-passed : any (uncharacterises keep f) sites ≡ false → any (restricts keep f) sites ≡ false → standing false (enteringRestrictions f (keptSites keep sites)) ≡ Standing.passedOver
   unfolding standing
   standing-passed e h =
-      standing-unrestricted (enteringRestrictions f (keptSites keep sites) .characterised) (enteringRestrictions f (keptSites keep sites) .restrictions) (opened-is ∙ ap not e) (restricted-is ∙ h)
+      standing-unrestricted (enteringRestrictions f (keptSites keep sites) .characterised) (enteringRestrictions f (keptSites keep sites) .restrictions) (uncharacterised-is ∙ ap not e) (restricted-is ∙ h)
 
   pub standing-judged : isJudged keep f sites ≡ true
       → standing false (enteringRestrictions f (keptSites keep sites)) ≡ Standing.judgedBy (enteringRestrictions f (keptSites keep sites) .restrictions)
   unfolding standing isJudged
   standing-judged e =
-      let h = and-eq-true-iff (not (any (opens keep f) sites)) (any (restricts keep f) sites) .0 e in
-      standing-restricted (enteringRestrictions f (keptSites keep sites) .characterised) (enteringRestrictions f (keptSites keep sites) .restrictions) (opened-is ∙ h .0) (restricted-is ∙ h .1)
+      let h = and-eq-true-iff (not (any (uncharacterises keep f) sites)) (any (restricts keep f) sites) .0 e in
+      standing-restricted (enteringRestrictions f (keptSites keep sites) .characterised) (enteringRestrictions f (keptSites keep sites) .restrictions) (uncharacterised-is ∙ h .0) (restricted-is ∙ h .1)
 
   asked-is : (p : Terms) → rejected (standing false (enteringRestrictions f (keptSites keep sites))) p ≡ isRejected keep f sites p
   unfolding standing isRejected isJudged
   asked-is p =
       standing-rejected (enteringRestrictions f (keptSites keep sites) .characterised) (enteringRestrictions f (keptSites keep sites) .restrictions) p
-      ∙ ap₂ (λ (t u : Bool). t && u) (ap₂ (λ (t u : Bool). t && u) opened-is restricted-is) (disjoint-is p)
+      ∙ ap₂ (λ (t u : Bool). t && u) (ap₂ (λ (t u : Bool). t && u) uncharacterised-is restricted-is) (disjoint-is p)
 
 pub rejected-is : (alone : Bool) (keep : ℕ → Bool) (f : Name) (sites : List Held) (p : Terms)
     → rejected (standing alone (enteringRestrictions f (keptSites keep sites))) p ≡ (not alone && isRejected keep f sites p)

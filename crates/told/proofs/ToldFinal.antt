@@ -16,7 +16,7 @@ use Rattle.meaning.specs.Cleaning.{isDisjoint, Standing, standing}
 use Rattle.meaning.specs.CleanReport.{UndecidedSentence, UncoveredRestriction, isOverlap, finalStanding, undecidedSentence, uncoveredRestriction, undecidedOf, uncoveredOf, sameUndecided, sameUncovered, dedup, undecided, uncovered}
 use Rattle.told.specs.Kept.{keptSentences, keptFunction, keptFunctions, keptProgram}
 use Rattle.told.specs.KeptSites.{keptSites}
-use Rattle.told.specs.Asked.{opens, restricts, isJudged}
+use Rattle.told.specs.Asked.{uncharacterises, restricts, isJudged}
 use Rattle.told.specs.History.{numbered}
 use Rattle.told.specs.ToldReport.{restrictionsAt, overlaps, undecidedIn, uncoveredIn, judgedOnly, undecidedTold, uncoveredTold, runsAfter}
 use Rattle.told.proofs.KeptSites.{kept-sites}
@@ -44,9 +44,9 @@ module _ (keep : ℕ → Bool) (sites : List Held) where
   judged-only : {A : Type 0} (lists : Standing → List A) → lists Standing.passedOver ≡ [] → lists Standing.uncharacterised ≡ [] → (f : Name) (l : List A) → lists (Standing.judgedBy (restrictionsAt keep f sites)) ≡ l
       → lists (final f) ≡ judgedOnly (isJudged keep f sites) l
   unfolding judgedOnly isJudged
-  judged-only {A} lists passed open-ended f l e = by (any (opens keep f) sites) (any (restricts keep f) sites) refl refl
+  judged-only {A} lists passed open-ended f l e = by (any (uncharacterises keep f) sites) (any (restricts keep f) sites) refl refl
     where
-      by : (t u : Bool) → any (opens keep f) sites ≡ t → any (restricts keep f) sites ≡ u → lists (final f) ≡ judgedOnly (not (any (opens keep f) sites) && any (restricts keep f) sites) l
+      by : (t u : Bool) → any (uncharacterises keep f) sites ≡ t → any (restricts keep f) sites ≡ u → lists (final f) ≡ judgedOnly (not (any (uncharacterises keep f) sites) && any (restricts keep f) sites) l
       by true u a b = ap lists (standing-open keep f sites a) ∙ (open-ended ∙ sym (ap (λ (z : Bool). judgedOnly (not z && any (restricts keep f) sites) l) a))
       by false true a b = ap lists (standing-judged keep f sites (ap₂ (λ (y z : Bool). not y && z) a b)) ∙ (e ∙ sym (ap₂ (λ (y z : Bool). judgedOnly (not y && z) l) a b))
       by false false a b = ap lists (standing-passed keep f sites a b) ∙ (passed ∙ sym (ap₂ (λ (y z : Bool). judgedOnly (not y && z) l) a b))

@@ -10,8 +10,8 @@ use Rattle.told.specs.Calls.{isListed}
 use Rattle.meaning.specs.Cleaning.{isDisjoint}
 
 -- Of the sites that are there: one that makes f uncharacterised, one that restricts it, one that the pattern p is not Disjoint from.
-unfoldable pub opens : (ℕ → Bool) → Name → Held → Bool
-opens keep f x = keep (x .sentence) && isListed false f x
+unfoldable pub uncharacterises : (ℕ → Bool) → Name → Held → Bool
+uncharacterises keep f x = keep (x .sentence) && isListed false f x
 
 unfoldable pub restricts : (ℕ → Bool) → Name → Held → Bool
 restricts keep f x = keep (x .sentence) && isListed true f x
@@ -24,7 +24,7 @@ meets keep f p x = restricts keep f x && isMet p x
 
 -- "It passes over [..] uncharacterised functions and functions without a restriction".
 unfoldable pub isJudged : (ℕ → Bool) → Name → List Held → Bool
-isJudged keep f sites = not (any (opens keep f) sites) && any (restricts keep f) sites
+isJudged keep f sites = not (any (uncharacterises keep f) sites) && any (restricts keep f) sites
 
 -- "Disjoint from every restriction of its function": repeats have the same verdict, so all sites may be asked.
 unfoldable pub isRejected : (ℕ → Bool) → Name → List Held → Terms → Bool

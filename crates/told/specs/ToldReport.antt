@@ -17,7 +17,7 @@ use Rattle.meaning.specs.Cleaning.{isDisjoint}
 use Rattle.meaning.specs.Text.{Text, formatTerms}
 use Rattle.meaning.specs.CleanReport.{RemovedSentence, UndecidedSentence, UncoveredRestriction, CleanReport, isOverlap, sameUndecided, sameUncovered}
 use Rattle.told.specs.KeptSites.{keptSites}
-use Rattle.told.specs.Asked.{opens, restricts, isJudged}
+use Rattle.told.specs.Asked.{uncharacterises, restricts, isJudged}
 use Rattle.told.specs.History.{isThere, startOf, numbered}
 
 -- A sentence that fell: in which round, of which function, its number.
@@ -84,10 +84,10 @@ unfoldable pub uncoveredTold : (ℕ → Bool) → List Held → ℕ → List Fun
 uncoveredTold keep sites i [] = []
 uncoveredTold keep sites i (x ∷ fs) = judgedOnly (isJudged keep (x .name) sites) (uncoveredIn keep sites i x) ++ uncoveredTold keep sites (i + sentenceCount (x .sentences)) fs
 
--- "A call or block in any argument makes the callee uncharacterised, and it stays listed if that site later goes": the functions but the root that a site opens at the beginning, the first of them at place k.
-unfoldable pub openedNames : ℕ → List Held → ℕ → List Function → List Name
-openedNames root sites k [] = []
-openedNames root sites k (x ∷ fs) = cond (not (eqb k root) && any (opens (λ s. true) (x .name)) sites) (x .name ∷ openedNames root sites (suc k) fs) (openedNames root sites (suc k) fs)
+-- "A call or block in any argument makes the callee uncharacterised, and it stays listed if that site later goes": the functions but the root that a site uncharacterises at the beginning, the first of them at place k.
+unfoldable pub uncharacterisedNames : ℕ → List Held → ℕ → List Function → List Name
+uncharacterisedNames root sites k [] = []
+uncharacterisedNames root sites k (x ∷ fs) = cond (not (eqb k root) && any (uncharacterises (λ s. true) (x .name)) sites) (x .name ∷ uncharacterisedNames root sites (suc k) fs) (uncharacterisedNames root sites (suc k) fs)
 
 -- The first of each run of neighbours that are the same as the one before; `last` is the one before, if any.
 unfoldable pub runsAfter : {A : Type 0} → (A → A → Bool) → List A → List A → List A
@@ -105,7 +105,7 @@ toldReport w fell n = record {
   removed = map (removedOf w fell) (firsts sameFallen (fallenFrom w fell 1 n));
   undecided = runsAfter sameUndecided [] (undecidedTold (isThere fell (suc n)) (sitesOf w) 0 (w .functions));
   uncovered = runsAfter sameUncovered [] (uncoveredTold (isThere fell (suc n)) (sitesOf w) 0 (w .functions));
-  uncharacterised = firsts sameName (openedNames (rootPlace w) (sitesOf w) 0 (w .functions));
+  uncharacterised = firsts sameName (uncharacterisedNames (rootPlace w) (sitesOf w) 0 (w .functions));
   dynamicDispatch = false;
   rounds = n;
 }

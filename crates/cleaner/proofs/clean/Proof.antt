@@ -58,8 +58,8 @@ enum-known-v c = search needs
 enum-told : tie.Need-enum-told
 enum-told c = search needs
 
-clean-accepted-requires : tie.Need-clean-accepted-requires
-clean-accepted-requires c κs =
+clean-residual-program-requires : tie.Need-clean-residual-program-requires
+clean-residual-program-requires c κs =
     (accepted-of (now (c .before .before .before .before .before .before .before .before .before .before .before .before .before .before .args .img)) (c .before .before .before .before .before .check .result) (c .before .before .before .before .before .check .ensures) (c .before .before .before .enum-told .given .1), (omega (arith, c .before .before .before .before .before .before .before .if3 .left)), (omega (arith, c .before .before .before .before .before .before .if4 .left)))
 
 returns-5 : tie.Need-returns-5
@@ -82,7 +82,7 @@ returns-6 : tie.Need-returns-6
 returns-6 c =
     let g = c .before .before .before .before .before .before .before .before .before .before .before .before .before .before .before .before .before .before .before .before .before .args in
     let a = accepted-of (now (g .img)) (c .before .before .before .before .before .before .before .before .before .before .before .before .check .result) (c .before .before .before .before .before .before .before .before .before .before .before .before .check .ensures) (c .before .before .before .before .before .before .before .before .before .before .enum-told .given .1) in
-    let e = ended-accepted (now (g .img)) (now (g .output)) (now (g .work)) (now (g .report)) (omega (arith, c .before .before .before .before .before .before .before .before .before .before .before .before .before .before .before .before .if1 .left)) (omega (arith, c .before .before .before .before .before .before .before .before .before .before .before .before .before .before .before .if2 .left)) (omega (arith, c .before .before .before .before .before .before .before .before .before .before .before .before .before .before .if3 .left)) (omega (arith, c .before .before .before .before .before .before .before .before .before .before .before .before .before .if4 .left)) (bytes-of (now (g .img)) (λ i. omega (arith, c .before .before .before .before .before .before .before .before .before .before .before .before .before .before .before .before .before .before .before .before .shared-slice-known .given i))) a _ _ _ _ (c .before .before .before .before .before .before .clean-accepted .ensures .0 a) (c .before .before .before .before .before .before .clean-accepted .ensures .1) in
+    let e = ended-accepted (now (g .img)) (now (g .output)) (now (g .work)) (now (g .report)) (omega (arith, c .before .before .before .before .before .before .before .before .before .before .before .before .before .before .before .before .if1 .left)) (omega (arith, c .before .before .before .before .before .before .before .before .before .before .before .before .before .before .before .if2 .left)) (omega (arith, c .before .before .before .before .before .before .before .before .before .before .before .before .before .before .if3 .left)) (omega (arith, c .before .before .before .before .before .before .before .before .before .before .before .before .before .if4 .left)) (bytes-of (now (g .img)) (λ i. omega (arith, c .before .before .before .before .before .before .before .before .before .before .before .before .before .before .before .before .before .before .before .before .shared-slice-known .given i))) a _ _ _ _ (c .before .before .before .before .before .before .clean-residual-program .ensures .0 a) (c .before .before .before .before .before .before .clean-residual-program .ensures .1) in
     (e .answered, (e .outputs, (e .works, (e .reports, e .fits))))
 
 pub clean-spec : {M : Type 1} → statement M
@@ -101,7 +101,7 @@ clean-spec =
     check-requires
     enum-known-v
     enum-told
-    clean-accepted-requires
+    clean-residual-program-requires
     returns-5
     same-length
     same-length-2

@@ -8,7 +8,7 @@ use Rattle.patterns.specs.Names.{sameName}
 use Rattle.meaning.specs.Lists.{firsts}
 use Rattle.told.specs.Numbered.{sitesOf}
 use Rattle.cleaning.specs.Indexed.{fellOf}
-use Rattle.told.specs.ToldReport.{openedNames, toldReport}
+use Rattle.told.specs.ToldReport.{uncharacterisedNames, toldReport}
 use Rattle.text.specs.Counts.{topText}
 use Rattle.meaning.specs.Report.{uncharacterisedLine, perfection, graphLine}
 use Rattle.text.proofs.Fill.{emitted-append, emitted-same, emitted-length}
@@ -63,7 +63,7 @@ returns c = λ w x root.
     let a = c .before .before .before .before .before .before .before .before .before .before .before .before .before .before .before .before .before .before .before .before .before .before .before .before .before .before .before .before .args in
     let r = toldReport w (fellOf (a .plan) (a .work .now)) (a .rounds) in
     let d = x .removing .readable in
-    let names = uncharacterisedLine (firsts sameName (openedNames (a .root) (sitesOf w) 0 (w .functions))) in
+    let names = uncharacterisedLine (firsts sameName (uncharacterisedNames (a .root) (sitesOf w) 0 (w .functions))) in
     let graph = graphLine (perfection false (a .figures .undecided) (a .figures .uncovered)) in
     let top = c .before .before .before .before .before .before .before .before .before .before .before .before .before .before .before .before .before .before .before .before .before .before .before .put-top .ensures .0 in
     emitted-same (whole-told w (fellOf (a .plan) (a .work .now)) (a .rounds) (a .plan) (a .root) (a .figures) (x .figures) (d .indexed .functions) (d .indexed .sentences) root)

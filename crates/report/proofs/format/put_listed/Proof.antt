@@ -4,7 +4,7 @@ use Rattle.patterns.specs.Names.{sameName}
 use Rattle.meaning.specs.Lists.{firsts}
 use Rattle.told.specs.Numbered.{sitesOf}
 use Rattle.cleaning.specs.Indexed.{fellOf}
-use Rattle.told.specs.ToldReport.{openedNames, toldReport}
+use Rattle.told.specs.ToldReport.{uncharacterisedNames, toldReport}
 use Rattle.meaning.specs.Report.{uncharacterisedLine}
 use Rattle.text.proofs.Fill.{emitted-append}
 use Rattle.report.specs.Format.{listsText, listedText}
@@ -34,7 +34,7 @@ returns c =
     let a = (c .before .before .before .before .before .before .before .before .before .before .before .before .before .before .before) .args in
     let l = c .before .before .before .before .before .before .before .before .before .put-lists .ensures in
     let n = c .before .before .put-uncharacterised .ensures in (
-      λ p x. emitted-append (listsText (toldReport p (fellOf (a .plan) (a .work .now)) (a .rounds))) (uncharacterisedLine (firsts sameName (openedNames (a .root) (sitesOf p) 0 (p .functions)))) (l .0 p x) (n .0 p (used-readable (l .1 .1) (x .removing .readable))),
+      λ p x. emitted-append (listsText (toldReport p (fellOf (a .plan) (a .work .now)) (a .rounds))) (uncharacterisedLine (firsts sameName (uncharacterisedNames (a .root) (sitesOf p) 0 (p .functions)))) (l .0 p x) (n .0 p (used-readable (l .1 .1) (x .removing .readable))),
       omega (arith, l .1 .0, n .1),
       l .1 .1,
     )

@@ -10,7 +10,7 @@ use Rattle.patterns.specs.Names.{sameName}
 use Rattle.meaning.specs.Lists.{any}
 use Rattle.report.specs.Emitting.{Readable}
 use Rattle.report.proofs.Places.{function-of}
-use Rattle.report.proofs.Opened.{namesTo, none-before, found-before, none-yet}
+use Rattle.report.proofs.Uncharacterised.{namesTo, none-before, found-before, none-yet}
 use Rattle.report.proofs.names.is_named_before.Statement.{statement}
 use Rattle.report.proofs.names.is_named_before.Tie as tie
 

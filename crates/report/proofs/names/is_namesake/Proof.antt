@@ -2,7 +2,7 @@
 use mathlib.Core.Path.{sym, ap, _∙_}
 use mathlib.Core.Bool.{Bool, _&&_}
 use Rattle.patterns.specs.Names.{sameName}
-use Rattle.report.proofs.Opened.{some-body}
+use Rattle.report.proofs.Uncharacterised.{some-body}
 use Rattle.report.proofs.names.is_namesake.Statement.{statement}
 use Rattle.report.proofs.names.is_namesake.Tie as tie
 

@@ -7,7 +7,7 @@ use Rattle.text.specs.Fill.{Emitted}
 use Rattle.text.proofs.Fill.{emitted-nothing, emitted-same, emitted-length}
 use Rattle.report.specs.Emitting.{Readable}
 use Rattle.report.proofs.Places.{function-of}
-use Rattle.report.proofs.Opened.{lineTo, line-start, line-step, line-done}
+use Rattle.report.proofs.Uncharacterised.{lineTo, line-start, line-step, line-done}
 use Rattle.report.proofs.names.put_uncharacterised.Statement.{statement}
 use Rattle.report.proofs.names.put_uncharacterised.Tie as tie
 
@@ -20,8 +20,8 @@ abbrev μ-loop : tie.MeasureT-loop
 loop-holds : tie.Need-loop-holds Inv-loop μ-loop
 loop-holds c = (omega arith, omega arith, λ w d. emitted-same (line-start ((c .before .before .before) .args .root) w) (emitted-nothing ((c .before .before .before) .args .out .now) ((c .before .before .before) .args .at)))
 
-put-opened-requires : tie.Need-put-opened-requires Inv-loop μ-loop
-put-opened-requires c κs =
+put-if-uncharacterised-requires : tie.Need-put-if-uncharacterised-requires Inv-loop μ-loop
+put-if-uncharacterised-requires c κs =
     let d = (c .before .before .before .before .before .before .before) .pre .0 .readable .indexed in (
       (c .before .before .before .before .before .before .before) .pre .0,
       (c .before) .if1 .taken,
@@ -37,10 +37,10 @@ loop-less c = omega (arith, (c .before .before .before .before) .if1 .taken)
 loop-again : tie.Need-loop-again Inv-loop μ-loop
 loop-again c = (
   omega (arith, (c .before .before .before .before) .if1 .taken),
-  omega (arith, (c .before .before .before .before .before .before) .loop .inv .1, (c .before .before) .put-opened .ensures .1),
+  omega (arith, (c .before .before .before .before .before .before) .loop .inv .1, (c .before .before) .put-if-uncharacterised .ensures .1),
   λ w d.
       let x = function-of d ((c .before .before .before .before .before .before) .loop .f) ((c .before .before .before .before) .if1 .taken) in
-      line-step ((c .before .before .before .before .before .before .before .before .before .before) .args .root) w ((c .before .before .before .before .before .before) .loop .f) (x .element) (x .is) ((c .before .before .before .before .before .before) .loop .inv .2 w d) ((c .before .before) .put-opened .ensures .0 w (x .element) d (x .is)),
+      line-step ((c .before .before .before .before .before .before .before .before .before .before) .args .root) w ((c .before .before .before .before .before .before) .loop .f) (x .element) (x .is) ((c .before .before .before .before .before .before) .loop .inv .2 w d) ((c .before .before) .put-if-uncharacterised .ensures .0 w (x .element) d (x .is)),
 )
 
 put-line-end-requires : tie.Need-put-line-end-requires Inv-loop μ-loop
@@ -66,7 +66,7 @@ put-uncharacterised-spec =
     Inv-loop
     μ-loop
     loop-holds
-    put-opened-requires
+    put-if-uncharacterised-requires
     add-f
     loop-less
     loop-again

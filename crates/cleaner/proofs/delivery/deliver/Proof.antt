@@ -1,4 +1,4 @@
--- `cleaner::told::deliver` meets its contract. Assumes nothing.
+-- `cleaner::delivery::deliver` meets its contract. Assumes nothing.
 use denote.Ref.{now}
 use native.Mathlib.Omega.{arith}
 use mathlib.Core.Path.{refl, sym, ap, subst, _∙_}
@@ -15,8 +15,8 @@ use Rattle.cleaner.specs.Writing.{Wrote}
 use Rattle.cleaner.proofs.Wrote.{wrote-nothing, wrote-all, emitted-whole, whole-length, whole-fits}
 use Rattle.cleaner.proofs.Delivered.{none-from, image-told, text-told, after-told, after-few, sentences-few, still, written-as, marks-are, marks-used, emitted-used}
 use borrow.Author.Needs.{needs}
-use Rattle.cleaner.proofs.told.deliver.Statement.{statement}
-use Rattle.cleaner.proofs.told.deliver.Tie as tie
+use Rattle.cleaner.proofs.delivery.deliver.Statement.{statement}
+use Rattle.cleaner.proofs.delivery.deliver.Tie as tie
 
 sub-n : tie.Need-sub-n
 sub-n c = omega (arith, accepted-long (now (c .before .before .before .before .args .img)) (bytes-of (now (c .before .before .before .before .args .img)) (λ i. omega (arith, c .before .before .before .shared-slice-known .given i))) (c .before .before .before .before .pre .0 .accepted))

@@ -1,11 +1,11 @@
--- `cleaner::whole::clean_accepted` meets its contract. Assumes nothing.
+-- `cleaner::steps::clean_residual_program` meets its contract. Assumes nothing.
 use native.Mathlib.Omega.{arith}
 use mathlib.Core.Path.{sym}
 use lib.Seq.{length-take-le}
 use Rattle.cleaner.proofs.Ends.{all-zero}
 use borrow.Author.Needs.{needs}
-use Rattle.cleaner.proofs.whole.clean_accepted.Statement.{statement}
-use Rattle.cleaner.proofs.whole.clean_accepted.Tie as tie
+use Rattle.cleaner.proofs.steps.clean_residual_program.Statement.{statement}
+use Rattle.cleaner.proofs.steps.clean_residual_program.Tie as tie
 
 add-entries : tie.Need-add-entries
 add-entries c = search needs
@@ -34,8 +34,8 @@ same-length-3 c = search needs
 returns : tie.Need-returns
 returns c = (λ a. c .before .before .before .before .before .before .before .before .before .before .clean-in .ensures .0 a, all-zero (c .before .before .before .before .before .before .before .before .before .before .before .before .before .before .before .before .before .before .args .work .now) _ (same-length-2 c) (λ k u. c .before .before .fill .ensures .0 k (omega arith) (omega (arith, u, same-length-2 c))))
 
-pub clean-accepted-spec : {M : Type 1} → statement M
-clean-accepted-spec =
+pub clean-residual-program-spec : {M : Type 1} → statement M
+clean-residual-program-spec =
     tie.close
     (tie.spec
     add-entries

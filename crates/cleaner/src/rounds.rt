@@ -1,7 +1,7 @@
 // The rounds of a program whose functions, sentences and sites are listed.
 use cleaning::prepare::link_program;
 use cleaning::root::root_place;
-use cleaning::rounds::clean_residual_program;
+use cleaning::rounds::clean_rounds;
 use cleaning::walks::calls_of;
 use index::Plan;
 use index::listing::fill;
@@ -32,7 +32,7 @@ pub fn clean_listed(b: &[u8], work: &mut [u32], plan: Plan) -> Rounds
     let end = work.len();
     fill(work, calls_of(plan) + 2 * plan.sites, end, 0);
     let root = root_place(b, work, plan.functions);
-    let rounds = clean_residual_program(b, work, plan, root);
+    let rounds = clean_rounds(b, work, plan, root);
     mark_left(work, plan);
     Rounds { root, rounds }
 }

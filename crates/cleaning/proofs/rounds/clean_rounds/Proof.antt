@@ -1,4 +1,4 @@
--- `cleaning::rounds::clean_residual_program` meets its contract. Assumes nothing.
+-- `cleaning::rounds::clean_rounds` meets its contract. Assumes nothing.
 use Prim.Native.Nat.{ℕ, suc, _+_, _-_, _<_, _≤_}
 use native.Mathlib.Omega.{arith}
 use mathlib.Core.Path.{_≡_, subst, _∙_}
@@ -8,8 +8,8 @@ use Rattle.program.proofs.Own.{own-counted}
 use Rattle.cleaning.specs.Room.{Remembering}
 use Rattle.cleaning.specs.RoundDone.{RoundMade, RoundsReady}
 use Rattle.cleaning.proofs.AllRounds.{RoundsAt, rounds-start, rounds-fewer, rounds-next, rounds-end}
-use Rattle.cleaning.proofs.rounds.clean_residual_program.Statement.{statement}
-use Rattle.cleaning.proofs.rounds.clean_residual_program.Tie as tie
+use Rattle.cleaning.proofs.rounds.clean_rounds.Statement.{statement}
+use Rattle.cleaning.proofs.rounds.clean_rounds.Tie as tie
 
 abbrev Inv-loop : tie.InvT-loop
 Inv-loop b work₀ plan root round₀ work round = ((w : Program) → RoundsReady b w work₀ plan root → RoundsAt b w work₀ work plan root round) × Remembering b plan work
@@ -60,8 +60,8 @@ same-length c = let p = c .before .before .before .before .before .before .befor
 returns : tie.Need-returns Inv-loop μ-loop
 returns c = (λ w r. rounds-end (c .before .before .before .before .before .loop .inv .0 w r) (made (c .before .before .before) false (c .if1 .left) w r), c .before .before .before .clean-once .ensures .1)
 
-pub clean-residual-program-spec : {M : Type 1} → statement M
-clean-residual-program-spec =
+pub clean-rounds-spec : {M : Type 1} → statement M
+clean-rounds-spec =
     tie.close
     (tie.spec
     Inv-loop

@@ -1,4 +1,4 @@
--- `cleaner::whole::clean_in` meets its contract. Assumes nothing.
+-- `cleaner::steps::clean_in` meets its contract. Assumes nothing.
 use native.Mathlib.Omega.{arith}
 use mathlib.Core.Path.{sym, _∙_}
 use lib.Seq.{length-take-le}
@@ -8,8 +8,8 @@ use Rattle.program.proofs.Own.{own-counted}
 use Rattle.told.specs.Numbered.{sitesOf}
 use Rattle.cleaner.proofs.Start.{body-of, some-program, dispatch-is, sites-at, some-sites, sites-fit, listed-small, delivered}
 use borrow.Author.Needs.{needs}
-use Rattle.cleaner.proofs.whole.clean_in.Statement.{statement}
-use Rattle.cleaner.proofs.whole.clean_in.Tie as tie
+use Rattle.cleaner.proofs.steps.clean_in.Statement.{statement}
+use Rattle.cleaner.proofs.steps.clean_in.Tie as tie
 
 sub-n : tie.Need-sub-n
 sub-n c = omega (arith, accepted-long ((c .before .before .before .before) .args .img .now) (bytes-of ((c .before .before .before .before) .args .img .now) (λ i. omega (arith, (c .before .before .before) .shared-slice-known .given i))) ((c .before .before .before .before) .pre .0))

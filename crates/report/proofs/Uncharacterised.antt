@@ -20,33 +20,33 @@ use Rattle.index.specs.First.{First}
 use Rattle.told.specs.Calls.{isListed}
 use Rattle.index.proofs.First.{element-below, element-same, first-any}
 use Rattle.meaning.specs.Text.{Text}
-use Rattle.told.specs.Asked.{opens}
+use Rattle.told.specs.Asked.{uncharacterises}
 use Rattle.cleaning.specs.Indexed.{SomeBody}
-use Rattle.told.specs.ToldReport.{openedNames}
+use Rattle.told.specs.ToldReport.{uncharacterisedNames}
 use Rattle.told.proofs.ReportLists.{names-new}
 use Rattle.index.specs.declared.Plan.{Plan}
 use Rattle.text.specs.Fill.{Emitted}
 use Rattle.meaning.specs.Report.{join, uncharacterisedLine}
 use Rattle.text.proofs.Fill.{emitted-append, emitted-same}
 use Rattle.report.specs.Emitting.{SomeReadable}
-use Rattle.report.specs.Names.{isOpened, isNewlyOpened, lead, openedText, lineEnd}
+use Rattle.report.specs.Names.{isUncharacterised, isNewlyUncharacterised, lead, uncharacterisedText, lineEnd}
 
 pub some-body : {b m : List ℕ} {p : Plan} → SomeReadable b m p → SomeBody m p
 some-body {b} s = record { body = b; program = s .program; indexed = s .readable .indexed }
 
 -- ---- whether a function is listed
 
-pub opened-any : (f : Name) (sites : List Held) (r : ℕ) → First (isListed false f) 0 sites r → ltb r (length sites) ≡ any (opens (λ s. true) f) sites
-unfolding opens
-opened-any f sites r g = sym (first-any g)
+pub uncharacterised-any : (f : Name) (sites : List Held) (r : ℕ) → First (isListed false f) 0 sites r → ltb r (length sites) ≡ any (uncharacterises (λ s. true) f) sites
+unfolding uncharacterises
+uncharacterised-any f sites r g = sym (first-any g)
 
-pub opened-root : (root : ℕ) (sites : List Held) (f : ℕ) (x : Function) → f ≡ root → false ≡ isOpened root sites f x
-unfolding isOpened
-opened-root root sites f x e = sym (ap (λ (t : Bool). not t && any (opens (λ s. true) (x .name)) sites) (eq-eqb f root e))
+pub uncharacterised-root : (root : ℕ) (sites : List Held) (f : ℕ) (x : Function) → f ≡ root → false ≡ isUncharacterised root sites f x
+unfolding isUncharacterised
+uncharacterised-root root sites f x e = sym (ap (λ (t : Bool). not t && any (uncharacterises (λ s. true) (x .name)) sites) (eq-eqb f root e))
 
-pub opened-other : (root : ℕ) (sites : List Held) (f : ℕ) (x : Function) → (f ≡ root → ⊥) → any (opens (λ s. true) (x .name)) sites ≡ isOpened root sites f x
-unfolding isOpened
-opened-other root sites f x n = sym (ap (λ (t : Bool). not t && any (opens (λ s. true) (x .name)) sites) (ne-eqb f root n))
+pub uncharacterised-other : (root : ℕ) (sites : List Held) (f : ℕ) (x : Function) → (f ≡ root → ⊥) → any (uncharacterises (λ s. true) (x .name)) sites ≡ isUncharacterised root sites f x
+unfolding isUncharacterised
+uncharacterised-other root sites f x n = sym (ap (λ (t : Bool). not t && any (uncharacterises (λ s. true) (x .name)) sites) (ne-eqb f root n))
 
 -- ---- one function more
 
@@ -55,18 +55,18 @@ module _ (root : ℕ) (sites : List Held) where
   keeps true n a b c e = ap (λ (l : List Name). n ∷ l) e
   keeps false n a b c e = e
 
-  pub opened-snoc : (fs : List Function) (f k i : ℕ) (x : Function) → getElem? fs f ≡ some x → i ≡ k + f
-      → openedNames root sites k (take (suc f) fs) ≡ openedNames root sites k (take f fs) ++ cond (isOpened root sites i x) (x .name ∷ []) []
-  unfolding openedNames isOpened
-  opened-snoc [] f k i x e z = absurd (omega (arith, element-below {A = Function} [] f x e))
-  opened-snoc (y ∷ fs) zero k i x e z =
+  pub uncharacterised-snoc : (fs : List Function) (f k i : ℕ) (x : Function) → getElem? fs f ≡ some x → i ≡ k + f
+      → uncharacterisedNames root sites k (take (suc f) fs) ≡ uncharacterisedNames root sites k (take f fs) ++ cond (isUncharacterised root sites i x) (x .name ∷ []) []
+  unfolding uncharacterisedNames isUncharacterised
+  uncharacterised-snoc [] f k i x e z = absurd (omega (arith, element-below {A = Function} [] f x e))
+  uncharacterised-snoc (y ∷ fs) zero k i x e z =
       let q : y ≡ x = element-same (y ∷ fs) 0 y x refl e in
       let h : k ≡ i = omega (arith, z) in
-      ap (λ (v : Function). cond (not (eqb k root) && any (opens (λ s. true) (v .name)) sites) (v .name ∷ []) []) q
-      ∙ ap (λ (n : ℕ). cond (not (eqb n root) && any (opens (λ s. true) (x .name)) sites) (x .name ∷ []) []) h
-  opened-snoc (y ∷ fs) (suc f) k i x e z =
-      keeps (not (eqb k root) && any (opens (λ s. true) (y .name)) sites) (y .name) (openedNames root sites (suc k) (take (suc f) fs)) (openedNames root sites (suc k) (take f fs)) (cond (isOpened root sites i x) (x .name ∷ []) [])
-      (opened-snoc fs f (suc k) i x e (omega (arith, z)))
+      ap (λ (v : Function). cond (not (eqb k root) && any (uncharacterises (λ s. true) (v .name)) sites) (v .name ∷ []) []) q
+      ∙ ap (λ (n : ℕ). cond (not (eqb n root) && any (uncharacterises (λ s. true) (x .name)) sites) (x .name ∷ []) []) h
+  uncharacterised-snoc (y ∷ fs) (suc f) k i x e z =
+      keeps (not (eqb k root) && any (uncharacterises (λ s. true) (y .name)) sites) (y .name) (uncharacterisedNames root sites (suc k) (take (suc f) fs)) (uncharacterisedNames root sites (suc k) (take f fs)) (cond (isUncharacterised root sites i x) (x .name ∷ []) [])
+      (uncharacterised-snoc fs f (suc k) i x e (omega (arith, z)))
 
   module _ (test : Name → Bool) where
     more : (t : Bool) (n : Name) (a b : List Name) → (any test a ≡ true → any test b ≡ true) → any test (cond t (n ∷ a) a) ≡ true → any test (cond t (n ∷ b) b) ≡ true
@@ -79,13 +79,13 @@ module _ (root : ℕ) (sites : List Held) where
         by false q = ap (λ (v : Bool). test n || v) (h (sym (ap (λ (v : Bool). v || any test a) q) ∙ e)) ∙ or-true (test n)
 
     -- What an earlier function passes, is passed among more of them.
-    pub earlier-any : (fs : List Function) (g f k : ℕ) → g ≤ f → any test (openedNames root sites k (take g fs)) ≡ true → any test (openedNames root sites k (take f fs)) ≡ true
-    unfolding openedNames any
+    pub earlier-any : (fs : List Function) (g f k : ℕ) → g ≤ f → any test (uncharacterisedNames root sites k (take g fs)) ≡ true → any test (uncharacterisedNames root sites k (take f fs)) ≡ true
+    unfolding uncharacterisedNames any
     earlier-any fs zero f k h e = absurd (false≢true e)
     earlier-any fs (suc g) zero k h e = absurd (omega (arith, h))
     earlier-any [] (suc g) (suc f) k h e = e
     earlier-any (y ∷ fs) (suc g) (suc f) k h e =
-        more (not (eqb k root) && any (opens (λ s. true) (y .name)) sites) (y .name) (openedNames root sites (suc k) (take g fs)) (openedNames root sites (suc k) (take f fs)) (earlier-any fs g f (suc k) (omega (arith, h))) e
+        more (not (eqb k root) && any (uncharacterises (λ s. true) (y .name)) sites) (y .name) (uncharacterisedNames root sites (suc k) (take g fs)) (uncharacterisedNames root sites (suc k) (take f fs)) (earlier-any fs g f (suc k) (omega (arith, h))) e
 
 any-append : {A : Type 0} (test : A → Bool) (l m : List A) → any test (l ++ m) ≡ (any test l || any test m)
 unfolding any
@@ -98,15 +98,15 @@ any-append test (x ∷ l) m = by (test x) (any-append test l m)
 
 -- The functions before the f-th, and their names that are listed.
 abbrev pub namesTo : ℕ → Program → ℕ → List Name
-namesTo root w f = openedNames root (sitesOf w) 0 (take f (w .functions))
+namesTo root w f = uncharacterisedNames root (sitesOf w) 0 (take f (w .functions))
 
-pub names-to-next : (root : ℕ) (w : Program) (f : ℕ) (x : Function) → getElem? (w .functions) f ≡ some x → namesTo root w (f + 1) ≡ namesTo root w f ++ cond (isOpened root (sitesOf w) f x) (x .name ∷ []) []
-names-to-next root w f x e = ap (namesTo root w) (add-one f) ∙ opened-snoc root (sitesOf w) (w .functions) f 0 f x e (omega arith)
+pub names-to-next : (root : ℕ) (w : Program) (f : ℕ) (x : Function) → getElem? (w .functions) f ≡ some x → namesTo root w (f + 1) ≡ namesTo root w f ++ cond (isUncharacterised root (sitesOf w) f x) (x .name ∷ []) []
+names-to-next root w f x e = ap (namesTo root w) (add-one f) ∙ uncharacterised-snoc root (sitesOf w) (w .functions) f 0 f x e (omega arith)
 
 -- Whether one more function has a name that passes.
-pub any-next : (test : Name → Bool) (root : ℕ) (w : Program) (f : ℕ) (x : Function) → getElem? (w .functions) f ≡ some x → any test (namesTo root w (f + 1)) ≡ (any test (namesTo root w f) || (isOpened root (sitesOf w) f x && test (x .name)))
+pub any-next : (test : Name → Bool) (root : ℕ) (w : Program) (f : ℕ) (x : Function) → getElem? (w .functions) f ≡ some x → any test (namesTo root w (f + 1)) ≡ (any test (namesTo root w f) || (isUncharacterised root (sitesOf w) f x && test (x .name)))
 unfolding any
-any-next test root w f x e = ap (any test) (names-to-next root w f x e) ∙ (any-append test (namesTo root w f) (cond (isOpened root (sitesOf w) f x) (x .name ∷ []) []) ∙ ap (λ (t : Bool). any test (namesTo root w f) || t) (by (isOpened root (sitesOf w) f x)))
+any-next test root w f x e = ap (any test) (names-to-next root w f x e) ∙ (any-append test (namesTo root w f) (cond (isUncharacterised root (sitesOf w) f x) (x .name ∷ []) []) ∙ ap (λ (t : Bool). any test (namesTo root w f) || t) (by (isUncharacterised root (sitesOf w) f x)))
   where
     or-false : (t : Bool) → (t || false) ≡ t
     or-false true = refl
@@ -117,24 +117,24 @@ any-next test root w f x e = ap (any test) (names-to-next root w f x e) ∙ (any
     by false = refl
 
 pub none-before : (test : Name → Bool) (root : ℕ) (w : Program) → any test (namesTo root w 0) ≡ false
-unfolding openedNames any
+unfolding uncharacterisedNames any
 none-before test root w = refl
 
-pub found-before : (test : Name → Bool) (root : ℕ) (w : Program) (g f : ℕ) (y : Function) → getElem? (w .functions) g ≡ some y → g < f → (isOpened root (sitesOf w) g y && test (y .name)) ≡ true → true ≡ any test (namesTo root w f)
+pub found-before : (test : Name → Bool) (root : ℕ) (w : Program) (g f : ℕ) (y : Function) → getElem? (w .functions) g ≡ some y → g < f → (isUncharacterised root (sitesOf w) g y && test (y .name)) ≡ true → true ≡ any test (namesTo root w f)
 found-before test root w g f y e l h =
     sym (earlier-any root (sitesOf w) test (w .functions) (g + 1) f 0 (omega (arith, l)) (any-next test root w g y e ∙ (ap (λ (t : Bool). any test (namesTo root w g) || t) h ∙ or-true (any test (namesTo root w g)))))
 
-pub none-yet : (test : Name → Bool) (root : ℕ) (w : Program) (g : ℕ) (y : Function) → getElem? (w .functions) g ≡ some y → any test (namesTo root w g) ≡ false → (isOpened root (sitesOf w) g y && test (y .name)) ≡ false → any test (namesTo root w (g + 1)) ≡ false
-none-yet test root w g y e n h = any-next test root w g y e ∙ (ap (λ (t : Bool). t || (isOpened root (sitesOf w) g y && test (y .name))) n ∙ h)
+pub none-yet : (test : Name → Bool) (root : ℕ) (w : Program) (g : ℕ) (y : Function) → getElem? (w .functions) g ≡ some y → any test (namesTo root w g) ≡ false → (isUncharacterised root (sitesOf w) g y && test (y .name)) ≡ false → any test (namesTo root w (g + 1)) ≡ false
+none-yet test root w g y e n h = any-next test root w g y e ∙ (ap (λ (t : Bool). t || (isUncharacterised root (sitesOf w) g y && test (y .name))) n ∙ h)
 
 -- ---- what one function adds
 
-pub text-new : (root : ℕ) (w : Program) (f : ℕ) (x : Function) (first : Bool) → isNewlyOpened root w f x ≡ true → lead first ++ x .name ≡ openedText root w f x first
-unfolding openedText
+pub text-new : (root : ℕ) (w : Program) (f : ℕ) (x : Function) (first : Bool) → isNewlyUncharacterised root w f x ≡ true → lead first ++ x .name ≡ uncharacterisedText root w f x first
+unfolding uncharacterisedText
 text-new root w f x first e = sym (ap (λ (t : Bool). cond t (lead first ++ x .name) []) e)
 
-pub text-none : (root : ℕ) (w : Program) (f : ℕ) (x : Function) (first : Bool) → isNewlyOpened root w f x ≡ false → [] ≡ openedText root w f x first
-unfolding openedText
+pub text-none : (root : ℕ) (w : Program) (f : ℕ) (x : Function) (first : Bool) → isNewlyUncharacterised root w f x ≡ false → [] ≡ uncharacterisedText root w f x first
+unfolding uncharacterisedText
 text-none root w f x first e = sym (ap (λ (t : Bool). cond t (lead first ++ x .name) []) e)
 
 -- ---- the names so far
@@ -201,11 +201,11 @@ names-end (x ∷ l) = simp (append-assoc, append-nil) refl
 abbrev pub lineTo : ℕ → Program → ℕ → Text
 lineTo root w f = namesLine (newAfter sameName [] (namesTo root w f))
 
-line-next : (root : ℕ) (w : Program) (f : ℕ) (x : Function) → getElem? (w .functions) f ≡ some x → lineTo root w f ++ openedText root w f x (isNil (newAfter sameName [] (namesTo root w f))) ≡ lineTo root w (f + 1)
-unfolding openedText isNewlyOpened
+line-next : (root : ℕ) (w : Program) (f : ℕ) (x : Function) → getElem? (w .functions) f ≡ some x → lineTo root w f ++ uncharacterisedText root w f x (isNil (newAfter sameName [] (namesTo root w f))) ≡ lineTo root w (f + 1)
+unfolding uncharacterisedText isNewlyUncharacterised
 line-next root w f x e =
-    by (newAfter sameName [] (namesTo root w f)) (isOpened root (sitesOf w) f x) (any (λ n. sameName n (x .name)) (namesTo root w f))
-    ∙ ap namesLine (sym (ap (newAfter sameName []) (names-to-next root w f x e) ∙ new-next sameName (namesTo root w f) (x .name) (isOpened root (sitesOf w) f x)))
+    by (newAfter sameName [] (namesTo root w f)) (isUncharacterised root (sitesOf w) f x) (any (λ n. sameName n (x .name)) (namesTo root w f))
+    ∙ ap namesLine (sym (ap (newAfter sameName []) (names-to-next root w f x e) ∙ new-next sameName (namesTo root w f) (x .name) (isUncharacterised root (sitesOf w) f x)))
   where
     by : (l : List Name) (o s : Bool) → namesLine l ++ cond (o && not s) (lead (isNil l) ++ x .name) [] ≡ namesLine (l ++ cond o (cond s [] (x .name ∷ [])) [])
     by l false s = append-nil (namesLine l) ∙ sym (ap namesLine (append-nil l))
@@ -213,19 +213,19 @@ line-next root w f x e =
     by l true false = sym (names-snoc l (x .name))
 
 pub line-start : (root : ℕ) (w : Program) → [] ≡ lineTo root w 0
-unfolding openedNames newAfter namesLine
+unfolding uncharacterisedNames newAfter namesLine
 line-start root w = refl
 
 pub line-step : (root : ℕ) (w : Program) (f : ℕ) (x : Function) → getElem? (w .functions) f ≡ some x → {s b d : List ℕ} {at place r : ℕ}
-    → Emitted s at (lineTo root w f) place b → Emitted b place (openedText root w f x (eqb place at)) r d → Emitted s at (lineTo root w (f + 1)) r d
+    → Emitted s at (lineTo root w f) place b → Emitted b place (uncharacterisedText root w f x (eqb place at)) r d → Emitted s at (lineTo root w (f + 1)) r d
 line-step root w f x e {s} {b} {d} {at} {place} {r} g h =
     emitted-same (line-next root w f x e)
-    (emitted-append (lineTo root w f) (openedText root w f x (isNil (newAfter sameName [] (namesTo root w f)))) g
-    (subst (λ (t : Bool). Emitted b place (openedText root w f x t) r d) (first-place (newAfter sameName [] (namesTo root w f)) at place (g .after)) h))
+    (emitted-append (lineTo root w f) (uncharacterisedText root w f x (isNil (newAfter sameName [] (namesTo root w f)))) g
+    (subst (λ (t : Bool). Emitted b place (uncharacterisedText root w f x t) r d) (first-place (newAfter sameName [] (namesTo root w f)) at place (g .after)) h))
 
 pub line-done : (root : ℕ) (w : Program) (f : ℕ) → length (w .functions) ≤ f → {s b d : List ℕ} {at place r : ℕ}
-    → Emitted s at (lineTo root w f) place b → Emitted b place (lineEnd (eqb place at)) r d → Emitted s at (uncharacterisedLine (firsts sameName (openedNames root (sitesOf w) 0 (w .functions)))) r d
+    → Emitted s at (lineTo root w f) place b → Emitted b place (lineEnd (eqb place at)) r d → Emitted s at (uncharacterisedLine (firsts sameName (uncharacterisedNames root (sitesOf w) 0 (w .functions)))) r d
 line-done root w f l {s} {b} {d} {at} {place} {r} g h =
-    emitted-same (names-end (newAfter sameName [] (namesTo root w f)) ∙ ap uncharacterisedLine (ap (λ (fs : List Function). newAfter sameName [] (openedNames root (sitesOf w) 0 fs)) (take-all f (w .functions) l) ∙ sym (names-new (openedNames root (sitesOf w) 0 (w .functions)))))
+    emitted-same (names-end (newAfter sameName [] (namesTo root w f)) ∙ ap uncharacterisedLine (ap (λ (fs : List Function). newAfter sameName [] (uncharacterisedNames root (sitesOf w) 0 fs)) (take-all f (w .functions) l) ∙ sym (names-new (uncharacterisedNames root (sitesOf w) 0 (w .functions)))))
     (emitted-append (lineTo root w f) (lineEnd (isNil (newAfter sameName [] (namesTo root w f)))) g
     (subst (λ (t : Bool). Emitted b place (lineEnd t) r d) (first-place (newAfter sameName [] (namesTo root w f)) at place (g .after)) h))

@@ -1,7 +1,7 @@
 // Clean on an accepted image.
-use crate::alone::leave_alone;
-use crate::listed::clean_listed;
-use crate::told::deliver;
+use crate::delivery::deliver;
+use crate::rounds::clean_listed;
+use crate::unchanged::leave_alone;
 use answers::CleanAnswer;
 use cleaning::prepare::list_program;
 use cleaning::walks::calls_of;
@@ -43,7 +43,7 @@ fn clean_in(img: &[u8], output: &mut [u8], work: &mut [u32], report: &mut [u8]) 
 }
 
 // Output, report and answer, and work all zero.
-pub fn clean_accepted(
+pub fn clean_residual_program(
     img: &[u8],
     output: &mut [u8],
     work: &mut [u32],

@@ -1,4 +1,4 @@
--- `cleaner::alone::leave_alone` meets its contract. Assumes nothing.
+-- `cleaner::unchanged::leave_alone` meets its contract. Assumes nothing.
 use native.Mathlib.Omega.{arith}
 use mathlib.Core.Path.{refl, sym, ap, subst, _∙_}
 use mathlib.Core.List.{_++_}
@@ -12,8 +12,8 @@ use Rattle.cleaner.specs.Writing.{Wrote}
 use Rattle.report.proofs.Short.{unchanged-short}
 use Rattle.cleaner.proofs.Wrote.{wrote-nothing, wrote-all, emitted-none, emitted-whole, pasted-whole, same-image, whole-length, whole-fits}
 use borrow.Author.Needs.{needs}
-use Rattle.cleaner.proofs.alone.leave_alone.Statement.{statement}
-use Rattle.cleaner.proofs.alone.leave_alone.Tie as tie
+use Rattle.cleaner.proofs.unchanged.leave_alone.Statement.{statement}
+use Rattle.cleaner.proofs.unchanged.leave_alone.Tie as tie
 
 slice-relend-prefix-format-unchanged : tie.Need-slice-relend-prefix-format-unchanged
 slice-relend-prefix-format-unchanged c = search needs

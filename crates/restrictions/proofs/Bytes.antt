@@ -19,21 +19,21 @@ mutual
   terms-bytes (symbol s x r) m d k h = omega (arith, symbol-length s x (putTerms r k), terms-bytes r m d k (h .2))
   terms-bytes (variable s v n r) m d k h = omega (arith, span-length s (putName n (putTerms r k)), name-length n (putTerms r k), terms-bytes r m d k (h .2))
   terms-bytes (bracket s i r) m d k h =
-      omega (arith, span-length s (putTerms i (putTerms r k)), terms-bytes i m (suc d) (putTerms r k) (h .2), terms-bytes r m d k (h .3), length-append (collectCallSites i) (collectCallSites r))
+      simp length-append (omega (arith, span-length s (putTerms i (putTerms r k)), terms-bytes i m (suc d) (putTerms r k) (h .2), terms-bytes r m d k (h .3)))
   terms-bytes (call s f a r) m d k h =
-      omega (arith, span-length s (putName f (putTerms a (putTerms r k))), name-length f (putTerms a (putTerms r k)), h .3 .0, terms-bytes a m (suc d) (putTerms r k) (h .4), terms-bytes r m d k (h .5), length-append (collectCallSites a) (collectCallSites r))
+      simp length-append (omega (arith, span-length s (putName f (putTerms a (putTerms r k))), name-length f (putTerms a (putTerms r k)), h .3 .0, terms-bytes a m (suc d) (putTerms r k) (h .4), terms-bytes r m d k (h .5)))
   terms-bytes (block s a b r) m d k h =
-      omega (arith, span-length s (putTerms a (putSentences b (putTerms r k))), terms-bytes a m (suc d) (putSentences b (putTerms r k)) (h .3), sentences-bytes b (suc d) (putTerms r k) (h .4), terms-bytes r m d k (h .5), length-append (collectCallSites a) (sentenceSites b ++ collectCallSites r), length-append (sentenceSites b) (collectCallSites r))
+      simp length-append (omega (arith, span-length s (putTerms a (putSentences b (putTerms r k))), terms-bytes a m (suc d) (putSentences b (putTerms r k)) (h .3), sentences-bytes b (suc d) (putTerms r k) (h .4), terms-bytes r m d k (h .5)))
 
   pub conditions-bytes : (c : Conditions) (d : ℕ) (k : List ℕ) → ValidConditions c d → 12 * length (conditionSites c) + length k ≤ length (putConditions c k)
   conditions-bytes none d k h = omega arith
   conditions-bytes (condition s r p c) d k h =
-      omega (arith, span-length s (putTerms r (putTerms p (putConditions c k))), terms-bytes r Mode.result d (putTerms p (putConditions c k)) (h .1), terms-bytes p Mode.pattern d (putConditions c k) (h .2), conditions-bytes c d k (h .3), length-append (collectCallSites r) (collectCallSites p ++ conditionSites c), length-append (collectCallSites p) (conditionSites c))
+      simp length-append (omega (arith, span-length s (putTerms r (putTerms p (putConditions c k))), terms-bytes r Mode.result d (putTerms p (putConditions c k)) (h .1), terms-bytes p Mode.pattern d (putConditions c k) (h .2), conditions-bytes c d k (h .3)))
 
   pub sentences-bytes : (b : Sentences) (d : ℕ) (k : List ℕ) → ValidSentences b d → 12 * (length (sentenceSites b) + sentenceCount b) + suc (length k) ≤ length (putSentences b k)
   sentences-bytes empty d k h = omega arith
   sentences-bytes (sentence a p c r b) d k h =
-      omega (arith, head-length a (putTerms p (putConditions c (12 ∷ putTerms r (putSentences b k)))), terms-bytes p Mode.pattern d (putConditions c (12 ∷ putTerms r (putSentences b k))) (h .1), conditions-bytes c d (12 ∷ putTerms r (putSentences b k)) (h .2), terms-bytes r Mode.result d (putSentences b k) (h .3), sentences-bytes b d k (h .4), length-append (collectCallSites p) (collectCallSites r ++ (conditionSites c ++ sentenceSites b)), length-append (collectCallSites r) (conditionSites c ++ sentenceSites b), length-append (conditionSites c) (sentenceSites b))
+      simp length-append (omega (arith, head-length a (putTerms p (putConditions c (12 ∷ putTerms r (putSentences b k)))), terms-bytes p Mode.pattern d (putConditions c (12 ∷ putTerms r (putSentences b k))) (h .1), conditions-bytes c d (12 ∷ putTerms r (putSentences b k)) (h .2), terms-bytes r Mode.result d (putSentences b k) (h .3), sentences-bytes b d k (h .4)))
 
 -- A function takes 13 besides its sentences.
 pub functions-bytes : (fs : List Function) → ValidFunctions fs → 13 * length fs + 12 * (length (functionSites fs) + ownSentenceCount fs) ≤ length (putFunctions fs)

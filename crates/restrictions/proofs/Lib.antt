@@ -3,6 +3,7 @@ pub mod Within
 pub mod Inside
 pub mod Calls
 pub mod Appended
+pub mod Stage
 pub mod Going
 pub mod Readings
 pub mod Bytes

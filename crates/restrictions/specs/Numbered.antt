@@ -3,19 +3,14 @@ use Prim.Native.Nat.{ℕ, suc, _+_, _≤_}
 use mathlib.Core.Path.{_≡_}
 use mathlib.Core.List.{List, [], _∷_, _++_}
 use lib.ListN.{length, drop}
-use Rattle.program.specs.Limits.{Mode}
-use Rattle.image.specs.Parts.{TermsAt, SentenceAt, FunctionsAt}
 use Rattle.program.specs.Sentences.{Sentence}
+use Rattle.image.specs.Parts.{SentenceAt, FunctionsAt}
 use Rattle.meaning.specs.Sites.{Site, collectCallSites, conditionSites, functionSites}
 use Rattle.told.specs.Numbered.{heldBy, ownSites}
 use Rattle.restrictions.specs.Entries.{Appended}
 use Rattle.restrictions.specs.declared.Walk.{Walk}
 
 -- m entries have room, from n on, for the sites of what stands in b at a place.
-pub record RoomForTerms (b : List ℕ) (at n m : ℕ) : Type 0 where
-  pub reading : TermsAt Mode.result (drop at b)
-  pub room : n + length (collectCallSites (reading .terms)) ≤ m
-
 pub record RoomForSentence (b : List ℕ) (at n m : ℕ) : Type 0 where
   pub reading : SentenceAt (drop at b)
   pub room : n + length (ownSites (reading .sentence)) ≤ m

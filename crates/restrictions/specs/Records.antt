@@ -38,13 +38,13 @@ pub record RecordsAt (s : List ℕ) : Type 0 where
   pub is : s ≡ putRecords records rest
   pub valid : ValidRecords records
 
--- Records stand at `at` of b, and m entries have room for their sites from n on.
-pub record RoomFor (b : List ℕ) (at n m : ℕ) : Type 0 where
-  pub reading : RecordsAt (drop at b)
+-- Records stand at the start of s, and m entries have room for their sites from n on.
+pub record RoomFor (s : List ℕ) (n m : ℕ) : Type 0 where
+  pub reading : RecordsAt s
   pub room : n + length (recordSites (reading .records)) ≤ m
 
--- The sites of these records have been written, in the sentence k, and the walk is past them.
-pub record Collected (b : List ℕ) (at k : ℕ) (old : List ℕ) (n : ℕ) (new : List ℕ) (w : Walk) (r : RecordsAt (drop at b)) : Type 0 where
+-- The sites of these records have been written, in the sentence k, as places of the body b, and the walk is past them in the part s.
+pub record Collected (b s : List ℕ) (k : ℕ) (old : List ℕ) (n : ℕ) (new : List ℕ) (w : Walk) (r : RecordsAt s) : Type 0 where
   pub appended : Appended b old n (w .count) new (heldBy k (recordSites (r .records)))
-  pub left : drop (w .at) b ≡ r .rest
-  pub fits : w .at ≤ length b
+  pub left : drop (w .at) s ≡ r .rest
+  pub fits : w .at ≤ length s

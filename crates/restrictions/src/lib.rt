@@ -4,19 +4,19 @@ use image::part::name_part;
 use image::part::result_start;
 use image::part::sentences_start;
 use image::part::term_len;
-use image::part::terms_len;
 ghost use mathlib.Core.Path.{_≡_};
-ghost use Prim.Native.Nat.{_<_, _≤_};
+ghost use mathlib.Core.List.{List};
+ghost use Prim.Native.Nat.{ℕ, _+_, _<_, _≤_};
 ghost use lib.ListN.{length, drop};
 ghost use Rattle.program.specs.Encode.{putTerms};
 ghost use Rattle.program.specs.Limits.{Mode};
 ghost use Rattle.image.specs.Parts.{Passes, TermsAt, SentenceAt, FunctionsAt};
 ghost use Rattle.program.specs.Sentences.{ownSentences};
-ghost use Rattle.meaning.specs.Sites.{collectCallSites, restrictionIsCharacterisable};
+ghost use Rattle.meaning.specs.Sites.{restrictionIsCharacterisable};
 ghost use Rattle.restrictions.specs.Entries.{CallAt, entryOffset, entrySentence, Appended};
-ghost use Rattle.told.specs.Numbered.{heldBy, heldSites};
 ghost use Rattle.restrictions.specs.Records.{RecordsAt, RoomFor, Collected};
-ghost use Rattle.restrictions.specs.Numbered.{RoomForTerms, RoomForSentence, RoomForFunctions, SentenceCollected};
+ghost use Rattle.told.specs.Numbered.{heldSites};
+ghost use Rattle.restrictions.specs.Numbered.{RoomForSentence, RoomForFunctions, SentenceCollected};
 
 // Whether the terms up to the close have no call and no block; the closes still to come are counted.
 pub fn restriction_is_characterisable(s: &[u8]) -> bool
@@ -77,7 +77,7 @@ fn entry(p: usize, sentence: usize) -> u32
     p as u32 + 32768 * (sentence as u32)
 }
 
-// The place past a walk's records, and how many sites are listed by then.
+// The place past a walk's records, in the bytes that it was given, and how many sites are listed by then.
 pub struct Walk {
     pub at: usize,
     pub count: usize,
@@ -85,66 +85,59 @@ pub struct Walk {
 
 // How many lists of records the mark m of a bracket, a block or a condition opens.
 fn opened(m: u8) -> usize
-    ensures { λ r. ⌜ ((m ≡ 7) → r ≡ 1) × (((m ≡ 9) → r ≡ 2) × ((m ≡ 11) → r ≡ 2)) ⌝ }
+    ensures { λ r. ⌜ ((m ≡ 7) → r ≡ 1) × ((m ≡ 7 → ⊥) → r ≡ 2) ⌝ }
 {
     if m == 7 { 1 } else { 2 }
 }
 
-// Lists the sites of the records that stand from `at` up to their close, after n others: an outer call before those in
-// its argument, a sentence's result before its conditions. Patterns have none. The closes still to come are counted, so
-// that only a sentence, whose parts are listed out of order, takes stack.
-fn collect(b: &[u8], at: usize, sentence: usize, sites: &mut [u32], n: usize) -> Walk
-    requires { ⌜ (length (now b) ≤ 32768) × (sentence < 4096) × RoomFor (now b) at n (length (now sites)) ⌝ }
-    ensures { λ w. ⌜ ((r : RecordsAt (drop at (now (b .entry)))) → Collected (now (b .entry)) at sentence (now (sites .entry)) n (now (sites .exit)) w r) ⌝ }
+// Where a sentence goes on after its conditions: at p, past its result, if m closes that, and 0 if it closes them.
+fn after_conditions(m: u8, p: usize) -> usize
+    ensures { λ r. ⌜ ((m ≡ 15) → r ≡ p) × ((m ≡ 15 → ⊥) → r ≡ 0) ⌝ }
 {
-    let mut p = at;
-    let mut k = n;
-    let mut closes: usize = 1;
-    while 0 < closes {
-        let m = b[p];
-        match m {
-            7 | 9 | 11 => {
-                closes += opened(m);
-                p += 9;
-            }
-            8 => {
-                sites[k] = entry(p, sentence);
-                k += 1;
-                closes += 1;
-                p += call_argument(&b[p..]);
-            }
-            10 => {
-                let x = &b[p..];
-                let a = collect(b, p + result_start(x), sentence, sites, k);
-                let w = collect(b, p + conditions_start(x), sentence, sites, a.count);
-                p = a.at;
-                k = w.count;
-            }
-            12 | 15 => {
-                closes -= 1;
-                p += 1;
-            }
-            _ => {
-                p += term_len(&b[p..]);
-            }
-        }
-    }
-    Walk { at: p, count: k }
+    if m == 15 { p } else { 0 }
 }
 
-// Lists the sites of the terms at `at`, after n others; how many are listed then.
-pub fn collect_call_sites(
-    b: &[u8],
-    at: usize,
-    sentence: usize,
-    sites: &mut [u32],
-    n: usize,
-) -> usize
-    requires { ⌜ (length (now b) ≤ 32768) × (sentence < 4096) × RoomForTerms (now b) at n (length (now sites)) ⌝ }
-    ensures { λ r. ⌜ ((t : TermsAt Mode.result (drop at (now (b .entry)))) → Appended (now (b .entry)) (now (sites .entry)) n r (now (sites .exit)) (heldBy sentence (collectCallSites (t .terms)))) ⌝ }
+// Lists the sites of the records at the start of a part, up to their close, after n others: an outer call before those in
+// its argument, a sentence's result before its conditions, none of a pattern. The part stands at `at` of the body. A list
+// inside is a part of this one, and `lists` of them begin at i. In a sentence, `next` is where its result or conditions lead.
+fn collect_call_sites(part: &[u8], at: usize, sentence: usize, sites: &mut [u32], n: usize) -> Walk
+    requires { ⌜ (at + length (now part) ≤ 32768) × (sentence < 4096) × RoomFor (now part) n (length (now sites)) ⌝ }
+    ensures { λ w. ⌜ ((b : List ℕ) (r : RecordsAt (now (part .entry))) → drop at b ≡ now (part .entry) → Collected b (now (part .entry)) sentence (now (sites .entry)) n (now (sites .exit)) w r) ⌝ }
 {
-    let w = collect(b, at, sentence, sites, n);
-    w.count
+    let mut i: usize = 0;
+    let mut k = n;
+    let mut lists: usize = 0;
+    let mut next: usize = 0;
+    loop {
+        let x = &part[i..];
+        let m = x[0];
+        if 0 < lists {
+            let w = collect_call_sites(x, at + i, sentence, sites, k);
+            i += w.at;
+            k = w.count;
+            lists -= 1;
+        } else if m < 7 {
+            i += term_len(x);
+        } else if m == 8 {
+            sites[k] = entry(at + i, sentence);
+            k += 1;
+            i += call_argument(x);
+            lists = 1;
+        } else if m == 10 {
+            next = i + conditions_start(x);
+            i += result_start(x);
+        } else if m < 12 {
+            i += 9;
+            lists = opened(m);
+        } else if next == 0 {
+            i += 1;
+            return Walk { at: i, count: k };
+        } else {
+            let p = next;
+            next = after_conditions(m, i + 1);
+            i = p;
+        }
+    }
 }
 
 // The same of the sentence at `at`: its result before its conditions.
@@ -155,10 +148,10 @@ pub fn sentence_sites(b: &[u8], at: usize, sentence: usize, sites: &mut [u32], n
     let x = &b[at..];
     let i = at + result_start(x);
     let j = at + conditions_start(x);
-    let a = collect(b, i, sentence, sites, n);
-    let w = collect(b, j, sentence, sites, a.count);
+    let a = collect_call_sites(&b[i..], i, sentence, sites, n);
+    let w = collect_call_sites(&b[j..], j, sentence, sites, a.count);
     Walk {
-        at: a.at,
+        at: i + a.at,
         count: w.count,
     }
 }

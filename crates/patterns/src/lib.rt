@@ -11,3 +11,9 @@ pub struct Found {
     pub verdict: Verdict,
     pub fuel: u32,
 }
+
+// What comparing two names says: whether they are the same, and how many pairs of bytes were compared.
+pub struct NameComparison {
+    pub equal: bool,
+    pub compared: usize,
+}

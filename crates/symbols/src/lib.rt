@@ -1,7 +1,8 @@
 // Equality of names and symbols on an image's own bytes.
 use image::part::name_part;
+use patterns::NameComparison;
 ghost use mathlib.Core.Path.{_≡_};
-ghost use Rattle.patterns.specs.Names.{lower, eqBytes, sameName};
+ghost use Rattle.patterns.specs.Names.{lower, eqBytes, sameName, compareNames};
 ghost use Rattle.patterns.specs.Symbols.{sameSymbol};
 ghost use Rattle.symbols.specs.Parts.{SymbolAt};
 
@@ -33,21 +34,38 @@ pub fn same_bytes(a: &[u8], b: &[u8]) -> bool
     true
 }
 
-// The same without regard to ASCII case.
-pub fn same_name(a: &[u8], b: &[u8]) -> bool
-    ensures { λ r. ⌜ r ≡ sameName (now (a .entry)) (now (b .entry)) ⌝ }
+// Two names without regard to ASCII case, up to the first pair of bytes that differs, and how many pairs were compared.
+pub fn compare_names(a: &[u8], b: &[u8]) -> NameComparison
+    ensures { λ r. ⌜ r ≡ compareNames (now (a .entry)) (now (b .entry)) ⌝ }
 {
     if a.len() != b.len() {
-        return false;
+        return NameComparison {
+            equal: false,
+            compared: 0,
+        };
     }
     let mut i = 0;
     while i < a.len() {
         if small(a[i]) != small(b[i]) {
-            return false;
+            return NameComparison {
+                equal: false,
+                compared: i + 1,
+            };
         }
         i += 1;
     }
-    true
+    NameComparison {
+        equal: true,
+        compared: i,
+    }
+}
+
+// Whether two names are the same without regard to ASCII case.
+pub fn same_name(a: &[u8], b: &[u8]) -> bool
+    ensures { λ r. ⌜ r ≡ sameName (now (a .entry)) (now (b .entry)) ⌝ }
+{
+    let c = compare_names(a, b);
+    c.equal
 }
 
 // Whether two symbols, each at the start of its part of an image, are equal.

@@ -1,6 +1,7 @@
 // Replays the stored questions of each file of data/ and compares each answer with the stored one.
 mod clean_answers;
 mod image_answers;
+mod name_answers;
 mod overlap_answers;
 mod records;
 
@@ -9,6 +10,7 @@ use records::Asked;
 
 // Whose answers a file holds.
 enum Kind {
+    Names,
     Image,
     Overlap,
     Clean,
@@ -24,6 +26,7 @@ fn ask_next(
     report: &mut [u8],
 ) -> Asked {
     match kind {
+        Kind::Names => name_answers::ask_next(fd, buf, output),
         Kind::Image => image_answers::ask_next(fd, buf, n),
         Kind::Overlap => overlap_answers::ask_next(fd, buf, n),
         Kind::Clean => clean_answers::ask_next(fd, buf, n, output, report),
@@ -92,6 +95,7 @@ fn replay_file(name: &[u8], kind: Kind) {
 }
 
 fn main() {
+    replay_file(b"names", Kind::Names);
     replay_file(b"image", Kind::Image);
     replay_file(b"overlap", Kind::Overlap);
     replay_file(b"clean", Kind::Clean);

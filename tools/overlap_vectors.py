@@ -330,7 +330,7 @@ CASES = (
     ("s.X", "()", DISJOINT, 1),
     ("t.X", "()", OVERLAP, 2),
     ("s.X s.X", "'AB'", OVERLAP, 3),
-    ("007", "7", DISJOINT, 1),
+    ("007", "7", OVERLAP, 2),
     ("1", "'1'", DISJOINT, 1),
     ("Abc", "ABC", OVERLAP, 2),
     ("'a'", "'A'", DISJOINT, 1),

@@ -346,8 +346,15 @@ fn same_symbol(first: &Symbol, second: &Symbol) -> bool {
         (Symbol::Identifier(first), Symbol::Identifier(second)) => {
             first.eq_ignore_ascii_case(second)
         }
+        (Symbol::Number(first), Symbol::Number(second)) => significant(first) == significant(second),
         _ => first == second,
     }
+}
+
+/// The digits after the leading zeros.
+fn significant(digits: &[u8]) -> &[u8] {
+    let zeros = digits.iter().take_while(|digit| **digit == b'0').count();
+    &digits[zeros..]
 }
 
 fn same_items(first: &[Item], second: &[Item]) -> bool {

@@ -73,7 +73,7 @@ fn character(letter: char) -> Symbol {
 fn usual_letters() -> Vec<Symbol> {
     let mut letters: Vec<Symbol> = "ABA'C".chars().map(character).collect();
     letters.extend(["Abc", "aBC", "'A'", "e.X"].map(|text| Symbol::Identifier(name(text))));
-    letters.extend(["7", "007"].map(|text| Symbol::Number(name(text))));
+    letters.extend(["7", "007", "0", "00"].map(|text| Symbol::Number(name(text))));
     letters
 }
 

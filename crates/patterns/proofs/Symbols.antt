@@ -1,11 +1,14 @@
 -- Laws of the equality of symbols: nothing above needs the text of its definition.
-use Prim.Native.Nat.{ℕ}
+use Prim.Native.Nat.{ℕ, _+_, _<_, _≤_}
+use native.Mathlib.Numerals.{add-one}
+use lib.ListN.{length, getD, drop, drop-of-length-le}
+use lib.Seq.{drop-cons}
 use mathlib.Core.Path.{_≡_, refl, sym, ap, _∙_}
 use mathlib.Core.Logic.{_↔_}
 use mathlib.Core.Bool.{true, false, true≢false}
-use borrow.Author.Tests.{eqb-true, eq-eqb}
-use Rattle.program.specs.Syntax.{Symbol, character, identifier, number}
-use Rattle.patterns.specs.Symbols.{key, eqSymbol, sameSymbol}
+use borrow.Author.Tests.{eqb-true, eq-eqb, ne-eqb}
+use Rattle.program.specs.Syntax.{Name, Symbol, character, identifier, number}
+use Rattle.patterns.specs.Symbols.{significant, key, eqSymbol, sameSymbol}
 use Rattle.patterns.proofs.Tests.{test-refl, test-sym, test-trans, test-left, test-right, test-false}
 use Rattle.patterns.proofs.Names.{eqBytes-true, eqBytes-refl}
 
@@ -77,3 +80,17 @@ key-sort (number n) = refl
 
 pub same-sort : (x y : Symbol) → sameSymbol x y ≡ true → sortOf x ≡ sortOf y
 same-sort x y e = sym (key-sort x) ∙ (ap sortOf (sameSymbol-iff x y .0 e) ∙ key-sort y)
+
+-- ---- leading zeros
+
+pub significant-zero : (n : Name) (i : ℕ) → i < length n → getD n i 0 ≡ 48 → significant (drop i n) ≡ significant (drop (i + 1) n)
+unfolding significant
+significant-zero n i h e = rw (drop-cons n i 0, eq-eqb (getD n i 0) 48 e, add-one)
+
+pub significant-other : (n : Name) (i : ℕ) → i < length n → (getD n i 0 ≡ 48 → ⊥) → significant (drop i n) ≡ drop i n
+unfolding significant
+significant-other n i h e = rw (drop-cons n i 0, ne-eqb (getD n i 0) 48 e)
+
+pub significant-end : (n : Name) (i : ℕ) → length n ≤ i → significant (drop i n) ≡ drop i n
+unfolding significant
+significant-end n i h = rw (drop-of-length-le n h)

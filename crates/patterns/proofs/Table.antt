@@ -7,7 +7,7 @@ use lib.Dec.{eqb}
 use borrow.Author.Tests.{eqb-true}
 use Rattle.patterns.specs.Ascii.{ascii}
 use Rattle.patterns.specs.Names.{lower, caseless, eqBytes}
-use Rattle.patterns.specs.Symbols.{key, eqSymbol, sameSymbol}
+use Rattle.patterns.specs.Symbols.{significant, key, eqSymbol, sameSymbol}
 use Rattle.patterns.specs.declared.Found.{Found}
 use Rattle.patterns.specs.Search.{view, leftoverOverlap, ends, splitsFrom, absorbingSplit, literalOverlap, start, overlapOfTerms, entered, enter, size, searchTo, sequence, patternsOverlap, spent}
 use Rattle.patterns.specs.Table.{nowhere, char, ident, digits, var, empty-bracket, three-then-b, before-a, letters-a, Case, table, longer, nested, Holds}
@@ -31,7 +31,7 @@ hold (k ∷ ks) e =
 
 -- One computation for all.
 all-computed : (all-right table && (all-right longer && all-right nested)) ≡ true
-unfolding all-right table longer nested nowhere char ident digits var empty-bracket three-then-b before-a ascii sequence searchTo size enter entered view absorbingSplit splitsFrom ends leftoverOverlap overlapOfTerms literalOverlap sameSymbol key eqSymbol eqBytes caseless lower
+unfolding all-right table longer nested nowhere char ident digits var empty-bracket three-then-b before-a ascii sequence searchTo size enter entered view absorbingSplit splitsFrom ends leftoverOverlap overlapOfTerms literalOverlap sameSymbol key significant eqSymbol eqBytes caseless lower
 all-computed = refl
 
 pub cases : Holds table

@@ -1,4 +1,4 @@
--- "Marked to be proved (C is character, N number)": cases 1 to 11 of the overlap verdict as one table, and the two longer ones.
+-- "Marked to be proved (C is character, N number)": cases 1 to 11 of the overlap verdict as one table, and the two longer ones. "Case 7 becomes Overlap." (document 02, 3)
 use Prim.Native.Nat.{ℕ, zero, suc}
 use Prim.Native.Char.{Char, code}
 use Prim.Native.String.{String}
@@ -58,7 +58,7 @@ table =
     case (var s-kind "X" nil) empty-bracket Disjoint 1 ∷
     case (var t-kind "X" nil) empty-bracket Overlap 2 ∷
     case (var s-kind "X" (var s-kind "X" nil)) (char "A" (char "B" nil)) Overlap 3 ∷
-    case (digits "007" nil) (digits "7" nil) Disjoint 1 ∷
+    case (digits "007" nil) (digits "7" nil) Overlap 2 ∷
     case (digits "1" nil) (char "1" nil) Disjoint 1 ∷
     case (ident "Abc" nil) (ident "ABC" nil) Overlap 2 ∷
     case (char "a" nil) (char "A" nil) Disjoint 1 ∷

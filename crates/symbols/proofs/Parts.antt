@@ -2,7 +2,7 @@
 use Prim.Native.Nat.{ℕ, _-_, _<_, _≤_}
 use native.Mathlib.Omega.{arith}
 use native.Mathlib.Nat.{le-refl}
-use mathlib.Core.Path.{_≡_, refl, sym, ap, _∙_}
+use mathlib.Core.Path.{_≡_, refl, sym, ap, ap₂, _∙_}
 use mathlib.Core.Bool.{Bool, true, false, true≢false}
 use mathlib.Core.List.{List, []}
 use lib.Dec.{eqb, leb, ltb}
@@ -17,7 +17,7 @@ use Rattle.image.specs.Parts.{NameAt}
 use Rattle.program.proofs.Numbers.{get32-put32}
 use Rattle.program.proofs.Lengths.{symbol-length}
 use Rattle.patterns.specs.Names.{eqBytes, sameName}
-use Rattle.patterns.specs.Symbols.{key, eqSymbol, sameSymbol}
+use Rattle.patterns.specs.Symbols.{significant, key, eqSymbol, sameSymbol}
 use Rattle.symbols.specs.Parts.{SymbolAt}
 use Rattle.patterns.proofs.Tests.{same-test}
 use Rattle.patterns.proofs.Names.{eqBytes-iff}
@@ -137,6 +137,9 @@ pub identifiers-compared : {a b : List ℕ} {x y : Symbol} (n : IdentifierAt a x
 unfolding sameSymbol key eqSymbol sameName
 identifiers-compared n m = rw (n .is, m .is)
 
-pub numbers-compared : {a b : List ℕ} {x y : Symbol} (n : NumberAt a x) (m : NumberAt b y) → eqBytes (n .name .name) (m .name .name) ≡ sameSymbol x y
+pub numbers-compared : {a b : List ℕ} {x y : Symbol} (n : NumberAt a x) (m : NumberAt b y) → eqBytes (significant (n .name .name)) (significant (m .name .name)) ≡ sameSymbol x y
 unfolding sameSymbol key eqSymbol
 numbers-compared n m = rw (n .is, m .is)
+
+pub same-digits : (a b : List ℕ) {x y : List ℕ} {t : Bool} → t ≡ eqBytes x y → x ≡ significant a → y ≡ significant b → t ≡ eqBytes (significant a) (significant b)
+same-digits a b e f g = e ∙ ap₂ eqBytes f g

@@ -2,8 +2,10 @@
 use image::part::name_part;
 use patterns::NameComparison;
 ghost use mathlib.Core.Path.{_≡_};
+ghost use Prim.Native.Nat.{_≤_};
+ghost use lib.ListN.{length, drop};
 ghost use Rattle.patterns.specs.Names.{lower, eqBytes, sameName, compareNames};
-ghost use Rattle.patterns.specs.Symbols.{sameSymbol};
+ghost use Rattle.patterns.specs.Symbols.{significant, sameSymbol};
 ghost use Rattle.symbols.specs.Parts.{SymbolAt};
 
 // An ASCII capital's small letter.
@@ -68,6 +70,29 @@ pub fn same_name(a: &[u8], b: &[u8]) -> bool
     c.equal
 }
 
+// How many zeros the digits begin with.
+fn leading_zeros(n: &[u8]) -> usize
+    ensures { λ r. ⌜ (r ≤ length (now (n .entry))) × (drop r (now (n .entry)) ≡ significant (now (n .entry))) ⌝ }
+{
+    let mut i = 0;
+    while i < n.len() {
+        if n[i] != 48 {
+            return i;
+        }
+        i += 1;
+    }
+    i
+}
+
+// Whether the digits of two numbers say the same whole number.
+fn same_number(a: &[u8], b: &[u8]) -> bool
+    ensures { λ r. ⌜ r ≡ eqBytes (significant (now (a .entry))) (significant (now (b .entry))) ⌝ }
+{
+    let i = leading_zeros(a);
+    let j = leading_zeros(b);
+    same_bytes(&a[i..], &b[j..])
+}
+
 // Whether two symbols, each at the start of its part of an image, are equal.
 pub fn same_symbol(a: &[u8], b: &[u8]) -> bool
     requires { ⌜ SymbolAt (now a) × SymbolAt (now b) ⌝ }
@@ -85,5 +110,5 @@ pub fn same_symbol(a: &[u8], b: &[u8]) -> bool
     if m == 2 {
         return same_name(x, y);
     }
-    same_bytes(x, y)
+    same_number(x, y)
 }

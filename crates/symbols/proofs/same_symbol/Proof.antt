@@ -2,7 +2,9 @@
 use borrow.Author.Needs.{needs}
 use native.Mathlib.Omega.{arith}
 use mathlib.Core.Path.{sym, ap₂, _∙_}
+use Rattle.program.specs.Syntax.{Name}
 use Rattle.patterns.specs.Names.{eqBytes, sameName}
+use Rattle.patterns.specs.Symbols.{significant}
 use Rattle.symbols.proofs.Parts.{part-rest, symbol-room, two-sorts, code-at, codes-compared, identifier-at, number-at, named-at, identifiers-compared, numbers-compared}
 use Rattle.symbols.proofs.same_symbol.Statement.{statement}
 use Rattle.symbols.proofs.same_symbol.Tie as tie
@@ -80,8 +82,8 @@ returns-3 c x y =
     ∙ ap₂ sameName ((rw part-rest at (c .before .before .before .before .name-part .ensures)) (n .name)) ((rw part-rest at (c .before .before .name-part2 .ensures)) (m .name))
     ∙ identifiers-compared n m
 
-same-bytes-requires-2 : tie.Need-same-bytes-requires-2
-same-bytes-requires-2 c κs = search needs
+same-number-requires : tie.Need-same-number-requires
+same-number-requires c κs = search needs
 
 returns-4 : tie.Need-returns-4
 returns-4 c x y =
@@ -89,8 +91,8 @@ returns-4 c x y =
     let e = d .before .if1 .left in
     let n = number-at x (d .if2 .left) (c .before .if3 .left) in
     let m = number-at y (λ h. d .if2 .left (e ∙ h)) (λ h. c .before .if3 .left (e ∙ h)) in
-    c .same-bytes2 .ensures
-    ∙ ap₂ eqBytes ((rw part-rest at (c .before .before .before .before .name-part .ensures)) (n .name)) ((rw part-rest at (c .before .before .name-part2 .ensures)) (m .name))
+    c .same-number .ensures
+    ∙ ap₂ (λ (n m : Name). eqBytes (significant n) (significant m)) ((rw part-rest at (c .before .before .before .before .name-part .ensures)) (n .name)) ((rw part-rest at (c .before .before .name-part2 .ensures)) (m .name))
     ∙ numbers-compared n m
 
 pub same-symbol-spec : {M : Type 1} → statement M
@@ -118,5 +120,5 @@ same-symbol-spec =
     name-part-requires-2
     same-name-requires
     returns-3
-    same-bytes-requires-2
+    same-number-requires
     returns-4)

@@ -1,11 +1,11 @@
 -- What the entry points promise, one page: each promise is a theorem, proved by citing.
 -- The code meets these definitions, with no `requires`: `cleaner::overlap` ensures `r ≡ overlapAnswer image first second` for every image and numbers, and `cleaner::clean` ensures that its answer and the three lent slices at exit are those of `cleanAnswer image lent`, for every image and every lent length. Under the C names `showclean_clean` and `showclean_overlap` ensure that the number returned is `packClean` and `packOverlap` of the same answers.
-use Prim.Native.Nat.{ℕ, _-_, _<_, _≤_}
+use Prim.Native.Nat.{ℕ, _+_, _-_, _<_, _≤_}
 use native.Mathlib.Omega.{arith}
 use mathlib.Core.Path.{_≡_, refl, sym, ap, subst, _∙_}
 use mathlib.Core.Logic.{_↔_, _⊎_, inl, inr}
 use mathlib.Core.Bool.{Bool, true, false, cond}
-use mathlib.Core.List.{List, _++_}
+use mathlib.Core.List.{List, [], _++_}
 use lib.Dec.{eqb}
 use lib.ListN.{length, take, drop, getElem?}
 use Rattle.program.specs.Syntax.{Terms, Program}
@@ -26,13 +26,16 @@ use Rattle.patterns.proofs.Meet.{meet}
 use Rattle.patterns.proofs.Disjoint.{disjoint-sound}
 use Rattle.patterns.proofs.Overlap.{overlap-sound}
 use Rattle.patterns.proofs.Unknown.{unknown-dry}
-use Rattle.meaning.specs.Cleaning.{cleanResidualProgram}
+use Rattle.meaning.specs.Cleaning.{rounds, cleanResidualProgram}
 use Rattle.meaning.specs.CleanReport.{cleanReport}
 use Rattle.meaning.specs.Report.{formatCleanReport}
 use Rattle.meaning.specs.Run as the-run
 use Rattle.meaning.proofs.Fewer.{cleaned-valid}
 use Rattle.meaning.proofs.Compared.{Compares, compares-plain}
+use Rattle.meaning.specs.Counted.{droppedInAll, functionsWithAny}
 use Rattle.meaning.proofs.SameRun.{same-run}
+use Rattle.meaning.proofs.Bound.{all-rounds-few, all-dropped-add-up}
+use Rattle.meaning.proofs.Twice.{clean-twice, twice-removed, twice-rounds}
 use Rattle.answers.specs.declared.CleanAnswer.{CleanAnswer}
 use Rattle.answers.specs.declared.OverlapAnswer.{OverlapAnswer}
 use Rattle.answers.specs.Answers.{comparePatterns, overlapAnswer, OverlapValues, refusalValues, comparisonValues, verdictNumber, overlapValues}
@@ -138,26 +141,53 @@ module _ (image : List ℕ) (bytes : Bytes image) where
 
 -- ---- Demand 3: raw and cleaned have the same run, "one claim about the whole event lists and endings of two runs with the same input, answer list and call limit: one of the accepted image's show and one of the show that Clean wrote from it".
 
+-- An answer accepts one program.
+accepted-once : {p q : Program} → Answer.accepted p ≡ Answer.accepted q → p ≡ q
+accepted-once {p} e = ap program e
+  where
+    program : Answer → Program
+    program (Answer.refused n k) = p
+    program (Answer.accepted q) = q
+
 -- The bytes that Clean wrote: those of the output slice, up to the length returned.
 abbrev pub wrote : List ℕ → Lent → List ℕ
 wrote image l = take (cleanNumbers image l .output) (cleanAnswer image l .lent .output)
 
-module _ (image : List ℕ) (bytes : Bytes image) (l : Lent) (w : Program) (accepts : CleanAccepts image l w) where
-  wrote-cleaned : wrote image l ≡ encode (cleanResidualProgram w)
-  unfolding cleanValues written
-  wrote-cleaned = ap (λ (x : Left). take (cleanValues (x .answer) .output) (x .lent .output)) (clean-accepts image l w accepts) ∙ written-back (encode (cleanResidualProgram w)) (l .output)
+wrote-cleaned : (image : List ℕ) (l : Lent) (w : Program) → CleanAccepts image l w → wrote image l ≡ encode (cleanResidualProgram w)
+unfolding cleanValues written
+wrote-cleaned image l w accepts = ap (λ (x : Left). take (cleanValues (x .answer) .output) (x .lent .output)) (clean-accepts image l w accepts) ∙ written-back (encode (cleanResidualProgram w)) (l .output)
 
+module _ (image : List ℕ) (bytes : Bytes image) (l : Lent) (w : Program) (accepts : CleanAccepts image l w) where
   -- They are an accepted image, of the cleaned program.
   pub wrote-accepted : decode (wrote image l) ≡ Answer.accepted (cleanResidualProgram w)
-  wrote-accepted = ap decode wrote-cleaned ∙ decode-encode (cleanResidualProgram w) (cleaned-valid w (encode-decode image w bytes (accepts .accepted) .1))
+  wrote-accepted = ap decode (wrote-cleaned image l w accepts) ∙ decode-encode (cleanResidualProgram w) (cleaned-valid w (encode-decode image w bytes (accepts .accepted) .1))
 
   -- Whatever program they are accepted as, its run is the raw program's: events, ending and value.
   pub same-runs : (q : Program) → decode (wrote image l) ≡ Answer.accepted q → (input : Expression) (answers : List Expression) (limit : ℕ) → the-run.run q input answers limit ≡ the-run.run w input answers limit
-  same-runs q e input answers limit = ap (λ (p : Program). the-run.run p input answers limit) (same-answer (sym e ∙ wrote-accepted)) ∙ same-run w input answers limit
-    where
-      program : Answer → Program
-      program (Answer.refused n p) = w
-      program (Answer.accepted p) = p
+  same-runs q e input answers limit = ap (λ (p : Program). the-run.run p input answers limit) (accepted-once (sym e ∙ wrote-accepted)) ∙ same-run w input answers limit
 
-      same-answer : {p r : Program} → Answer.accepted p ≡ Answer.accepted r → p ≡ r
-      same-answer f = ap program f
+-- ---- Document 02: "Show that cleaning a cleaned show gives the same bytes back, with no sentence removed and rounds at most 1."
+
+module _ (image : List ℕ) (bytes : Bytes image) (l : Lent) (w : Program) (accepts : CleanAccepts image l w) where
+  -- What Clean wrote, lent to Clean again, whatever else is lent then.
+  pub cleaned-again : (k : Lent) (q : Program) → CleanAccepts (wrote image l) k q → wrote (wrote image l) k ≡ wrote image l
+  cleaned-again k q again =
+      let same : q ≡ cleanResidualProgram w = accepted-once (sym (again .accepted) ∙ wrote-accepted image bytes l w accepts) in
+      wrote-cleaned (wrote image l) k q again ∙ (ap (λ (p : Program). encode (cleanResidualProgram p)) same ∙ (ap encode (clean-twice w) ∙ sym (wrote-cleaned image l w accepts)))
+
+  pub no-sentence-removed : cleanReport (cleanResidualProgram w) .removed ≡ []
+  no-sentence-removed = twice-removed w
+
+  pub one-round-at-most : cleanReport (cleanResidualProgram w) .rounds ≤ 1
+  unfolding cleanReport
+  one-round-at-most = twice-rounds w
+
+-- "rounds never exceed 1 plus the sentences before less the functions that have any"
+pub rounds-bounded : (w : Program) → cleanReport w .rounds + functionsWithAny (w .functions) ≤ 1 + cleanReport w .sentencesBefore
+unfolding cleanReport
+rounds-bounded w = let h = all-rounds-few w in omega (arith, h)
+
+-- "sentences before equal those after plus those dropped round by round"
+pub sentences-add-up : (w : Program) → cleanReport w .sentencesBefore ≡ cleanReport w .sentencesAfter + droppedInAll (rounds w)
+unfolding cleanReport
+sentences-add-up w = all-dropped-add-up w

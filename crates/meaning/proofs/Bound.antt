@@ -7,8 +7,10 @@ use lib.ListN.{length}
 use native.Mathlib.Omega.{arith}
 use Rattle.program.specs.Syntax.{Program}
 use Rattle.program.specs.Encode.{ownSentenceCount}
-use Rattle.meaning.specs.Cleaning.{LeftAlone, Round, round, leftBy, dropsNothing, roundsUpTo, roundsOf, after}
-use Rattle.meaning.proofs.Counts.{droppedCount, round-count, round-fewer, functionsWithAny, round-any, functions-count-any}
+use Rattle.meaning.specs.Dispatch.{residualDispatchesDynamically}
+use Rattle.meaning.specs.Counted.{droppedCount, droppedInAll, functionsWithAny}
+use Rattle.meaning.specs.Cleaning.{LeftAlone, Round, round, leftBy, dropsNothing, roundsUpTo, roundsOf, isRoot, rounds, after, cleanResidualProgram}
+use Rattle.meaning.proofs.Counts.{round-count, round-fewer, round-any, functions-count-any}
 
 abbrev count : Program → ℕ
 count p = ownSentenceCount (p .functions)
@@ -52,11 +54,6 @@ pub rounds-few : (alone : LeftAlone) (p : Program) → length (roundsOf alone p)
 unfolding roundsOf
 rounds-few alone p = few-rounds (suc (ownSentenceCount (p .functions))) alone p
 
--- "sentences before equal those after plus those dropped round by round"
-unfoldable pub droppedInAll : List Round → ℕ
-droppedInAll [] = 0
-droppedInAll (r ∷ l) = droppedCount (r .changes) + droppedInAll l
-
 all-dropped : (t : Bool) (p : Program) (l : List Round) → count p ≡ count (after p l) + droppedInAll l → count p ≡ count (after p (cond t [] l)) + droppedInAll (cond t [] l)
 unfolding after droppedInAll
 all-dropped true p l e = omega arith
@@ -74,3 +71,16 @@ dropped-up-to (suc n) alone p =
 pub dropped-round-by-round : (alone : LeftAlone) (p : Program) → ownSentenceCount (p .functions) ≡ ownSentenceCount (after p (roundsOf alone p) .functions) + droppedInAll (roundsOf alone p)
 unfolding roundsOf
 dropped-round-by-round alone p = dropped-up-to (suc (ownSentenceCount (p .functions))) alone p
+
+-- Of every program, one with a call of Mu or Up included.
+few-cond : (t : Bool) (p : Program) (l : List Round) → length l + functionsWithAny (p .functions) ≤ suc (count p) → length (cond t [] l) + functionsWithAny (p .functions) ≤ suc (count p)
+few-cond true p l h = let k = functions-count-any (p .functions) in omega (arith, k)
+few-cond false p l h = h
+
+pub all-rounds-few : (p : Program) → length (rounds p) + functionsWithAny (p .functions) ≤ suc (ownSentenceCount (p .functions))
+unfolding rounds
+all-rounds-few p = few-cond (residualDispatchesDynamically p) p (roundsOf (isRoot p) p) (rounds-few (isRoot p) p)
+
+pub all-dropped-add-up : (p : Program) → ownSentenceCount (p .functions) ≡ ownSentenceCount (cleanResidualProgram p .functions) + droppedInAll (rounds p)
+unfolding cleanResidualProgram rounds
+all-dropped-add-up p = all-dropped (residualDispatchesDynamically p) p (roundsOf (isRoot p) p) (dropped-round-by-round (isRoot p) p)

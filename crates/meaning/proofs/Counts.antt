@@ -11,12 +11,8 @@ use Rattle.program.specs.Sentences.{Sentence, sentenceList}
 use Rattle.meaning.specs.Lists.{all, select}
 use Rattle.meaning.specs.Sites.{Site, programSites}
 use Rattle.meaning.specs.Restrictions.{enteringRestrictions}
+use Rattle.meaning.specs.Counted.{droppedCount, hasAny, functionsWithAny}
 use Rattle.meaning.specs.Cleaning.{Standing, standing, rejected, accepted, Change, keptOf, droppedOf, change, LeftAlone, changes, round, changed, leftBy, isNone, dropsNothing}
-
--- The number of sentences that a round drops.
-unfoldable pub droppedCount : List Change → ℕ
-droppedCount [] = 0
-droppedCount (c ∷ l) = length (c .dropped) + droppedCount l
 
 -- ---- one function
 
@@ -118,15 +114,6 @@ unfolding dropsNothing
 round-fewer alone p e =
     let h = round-count alone p in let k = some-dropped (round alone p .changes) e in
     omega (arith, h, k)
-
--- The functions that have sentences: a round empties none.
-unfoldable pub hasAny : Sentences → ℕ
-hasAny empty = 0
-hasAny (sentence h p c r b) = 1
-
-unfoldable pub functionsWithAny : List Function → ℕ
-functionsWithAny [] = 0
-functionsWithAny (f ∷ fs) = hasAny (f .sentences) + functionsWithAny fs
 
 any-kept : (a : Sentences) (h : Head) (p : Terms) (c : Conditions) (r : Terms) (b : Sentences) → hasAny (keptOf a (sentence h p c r b)) ≡ 1
 unfolding hasAny keptOf

@@ -2,18 +2,22 @@
 use Prim.Native.Nat.{ℕ, zero, suc, _≤_, _<_}
 use mathlib.Core.Path.{_≡_, refl, _∙_, ap}
 use mathlib.Core.Bool.{Bool, true, false, true≢false, cond}
-use mathlib.Core.List.{List, [], _∷_}
+use mathlib.Core.List.{List, [], _∷_, map, flatMap}
 use lib.Dec.{eqb}
 use lib.ListN.{length}
 use native.Mathlib.Omega.{arith}
 use Rattle.program.specs.Syntax.{Program}
 use Rattle.program.specs.Encode.{ownSentenceCount}
+use Rattle.program.specs.Sentences.{Sentence}
 use Rattle.meaning.specs.Dispatch.{residualDispatchesDynamically}
 use Rattle.meaning.specs.Root.{rootPlace}
-use Rattle.meaning.specs.Cleaning.{LeftAlone, Round, round, leftBy, dropsNothing, roundsUpTo, roundsOf, isRoot, rounds, after, cleanResidualProgram}
+use Rattle.meaning.specs.Counted.{droppedCount, droppedInAll}
+use Rattle.meaning.specs.CleanReport.{removedSentence, removedBy, removed, cleanReport}
+use Rattle.meaning.specs.Lists.{firsts, firstsAfter}
+use Rattle.meaning.specs.Cleaning.{Change, LeftAlone, Round, round, leftBy, dropsNothing, roundsUpTo, roundsOf, isRoot, rounds, after, cleanResidualProgram}
 use Rattle.meaning.proofs.RootStays.{root-place-stays}
 use Rattle.meaning.proofs.Counts.{round-count, round-unchanged, round-fewer}
-use Rattle.meaning.proofs.Bound.{rounds-unfold, droppedInAll}
+use Rattle.meaning.proofs.Bound.{rounds-unfold}
 
 -- A further round would drop nothing.
 abbrev Still : LeftAlone → Program → Type 0
@@ -117,3 +121,26 @@ twice-rounds p = settled-few (cleanResidualProgram p) (settled-program p)
 
 pub twice-dropped : (p : Program) → droppedInAll (rounds (cleanResidualProgram p)) ≡ 0
 twice-dropped p = settled-dropped (cleanResidualProgram p) (settled-program p)
+
+-- Where nothing is dropped no line is listed as removed.
+change-removes-nothing : (c : Change) → length (c .dropped) ≡ 0 → removedBy c ≡ []
+unfolding removedBy
+change-removes-nothing c e = by (c .dropped) e
+  where
+    by : (l : List Sentence) → length l ≡ 0 → map (removedSentence c) l ≡ []
+    by [] e = refl
+    by (x ∷ l) e = absurd (omega (arith, e))
+
+changes-remove-nothing : (l : List Change) → droppedCount l ≡ 0 → flatMap removedBy l ≡ []
+unfolding droppedCount flatMap
+changes-remove-nothing [] e = refl
+changes-remove-nothing (c ∷ l) e = rw (change-removes-nothing c (omega (arith, e)), changes-remove-nothing l (omega (arith, e)))
+
+rounds-remove-nothing : (l : List Round) → droppedInAll l ≡ 0 → flatMap (λ r. flatMap removedBy (r .changes)) l ≡ []
+unfolding droppedInAll flatMap
+rounds-remove-nothing [] e = refl
+rounds-remove-nothing (r ∷ l) e = rw (changes-remove-nothing (r .changes) (omega (arith, e)), rounds-remove-nothing l (omega (arith, e)))
+
+pub twice-removed : (p : Program) → cleanReport (cleanResidualProgram p) .removed ≡ []
+unfolding cleanReport removed firsts firstsAfter
+twice-removed p = rw (rounds-remove-nothing (rounds (cleanResidualProgram p)) (twice-dropped p))

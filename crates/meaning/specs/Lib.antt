@@ -11,3 +11,4 @@ pub mod Match
 pub mod Report
 pub mod Spanless
 pub mod Run
+pub mod Counted

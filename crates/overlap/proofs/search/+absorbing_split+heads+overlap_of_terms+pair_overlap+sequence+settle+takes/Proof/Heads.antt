@@ -1,5 +1,5 @@
 -- `overlap::search::heads`, as a member of its cycle of calls.
-use Prim.Native.Nat.{ℕ, _+_, _-_, _≤_}
+use Prim.Native.Nat.{ℕ, _+_, _-_, _<_, _≤_}
 use native.Mathlib.Omega.{arith}
 use mathlib.Core.Path.{refl, sym, ap, _∙_, subst}
 use lib.ListN.{length}
@@ -47,6 +47,10 @@ module _ (t : ℕ) where
   pub sub-f : lts.Need-sub-f (claims t) (at t) heads.Post Inv-loop μ-loop
   sub-f c = omega arith
 
+  -- Some fuel is left.
+  some : (c : lts.In-loop (claims t) (at t) heads.Post Inv-loop μ-loop) → 0 < (c .before) .loop .f
+  some c = omega (arith, c .loop-test .taken)
+
   pub shared-slice-read-m : lts.Need-shared-slice-read-m (claims t) (at t) heads.Post Inv-loop μ-loop
   shared-slice-read-m c = pattern-room (given (c .before .before) .first .pattern)
 
@@ -70,7 +74,7 @@ module _ (t : ℕ) where
             let r = h .loop .inv .3 u v in
             c .behind-heads .ensures
             ∙ ap (λ (w : Verdict). behind (h .loop .heads) (found w (h .loop .f - 1))) ((c .before) .leftover-overlap .ensures (r .second .pattern))
-            ∙ sym (first-closed r ((c .before .before .before .before .before) .loop-test .taken) ((c .before .before) .if1 .taken)),
+            ∙ sym (first-closed r (some (c .before .before .before .before .before)) ((c .before .before) .if1 .taken)),
         h .loop .inv .2,
       )
 
@@ -90,7 +94,7 @@ module _ (t : ℕ) where
             let r = h .loop .inv .3 u v in
             c .behind-heads2 .ensures
             ∙ ap (λ (w : Verdict). behind (h .loop .heads) (found w (h .loop .f - 1))) ((c .before) .leftover-overlap2 .ensures (r .first .pattern))
-            ∙ sym (second-closed r ((c .before .before .before .before .before .before) .loop-test .taken) ((c .before .before) .if2 .taken)),
+            ∙ sym (second-closed r (some (c .before .before .before .before .before .before)) ((c .before .before) .if2 .taken)),
         h .loop .inv .2,
       )
 
@@ -106,7 +110,7 @@ module _ (t : ℕ) where
       let h = (c .before .before .before .before .before .before .before) in (
         λ u v.
             let r = h .loop .inv .3 u v in
-            first-opens r ((c .before .before .before .before .before .before) .loop-test .taken) (h .loop .inv .0) (h .loop .inv .1) (c .split-at .result) ((c .before) .if3 .taken) ((c .before .before) .if2 .left) (c .split-at .ensures (r .first .pattern)),
+            first-opens r (some (c .before .before .before .before .before .before)) (h .loop .inv .0) (h .loop .inv .1) (c .split-at .result) ((c .before) .if3 .taken) ((c .before .before) .if2 .left) (c .split-at .ensures (r .first .pattern)),
         h .loop .inv .2,
       )
 
@@ -122,7 +126,7 @@ module _ (t : ℕ) where
       let h = (c .before .before .before .before .before .before .before .before) in (
         λ u v.
             let r = h .loop .inv .3 u v in
-            second-opens r ((c .before .before .before .before .before .before .before) .loop-test .taken) (h .loop .inv .0) (h .loop .inv .1) (c .split-at2 .result) ((c .before .before .before .before) .if1 .left) ((c .before .before) .if3 .left) ((c .before) .if4 .taken) (c .split-at2 .ensures (r .second .pattern)),
+            second-opens r (some (c .before .before .before .before .before .before .before)) (h .loop .inv .0) (h .loop .inv .1) (c .split-at2 .result) ((c .before .before .before .before) .if1 .left) ((c .before .before) .if3 .left) ((c .before) .if4 .taken) (c .split-at2 .ensures (r .second .pattern)),
         h .loop .inv .2,
       )
 
@@ -156,7 +160,7 @@ module _ (t : ℕ) where
             let n′ = (c .before .before .before .before .before .before .before) .if4 .left in
             c .behind-heads3 .ensures
             ∙ sym
-            (heads-apart r ((c .before .before .before .before .before .before .before .before .before .before .before .before .before) .loop-test .taken) m n m′ n′ (q .result) (q .ensures .0 (head-in (r .first) m n .head) (head-in (r .second) m′ n′ .head)) (sym ((c .before .before) .is-disjoint .ensures) ∙ (c .before) .if5 .taken)),
+            (heads-apart r (some (c .before .before .before .before .before .before .before .before .before .before .before .before .before)) m n m′ n′ (q .result) (q .ensures .0 (head-in (r .first) m n .head) (head-in (r .second) m′ n′ .head)) (sym ((c .before .before) .is-disjoint .ensures) ∙ (c .before) .if5 .taken)),
         searched-then (h .loop .inv .2) (q .ensures .1),
       )
 
@@ -197,7 +201,7 @@ module _ (t : ℕ) where
   part-y-end c = omega arith
 
   pub loop-less : lts.Need-loop-less (claims t) (at t) heads.Post Inv-loop μ-loop
-  loop-less c = omega (arith, (c .before .before .before .before .before .before .before .before .before .before .before .before .before .before .before .before .before .before .before .before .before .before .before) .loop-test .taken)
+  loop-less c = omega (arith, some (c .before .before .before .before .before .before .before .before .before .before .before .before .before .before .before .before .before .before .before .before .before .before .before))
 
   -- Past both heads.
   pub loop-again : lts.Need-loop-again (claims t) (at t) heads.Post Inv-loop μ-loop
@@ -217,7 +221,7 @@ module _ (t : ℕ) where
         λ u v.
             let r = h .loop .inv .3 u v in
             subst (λ (w : Verdict). Reached (s .args .b .now) (s .args .fuel) (part (h .loop .x .now) (i .result)) (part (h .loop .y .now) (j .result)) (h .loop .f - 1) w (u .terms) (v .terms)) (sym ((c .before .before .before .before .before .before .before .before .before .before) .remember .ensures))
-            (heads-passed r ((c .before .before .before .before .before .before .before .before .before .before .before .before .before .before .before .before .before .before .before .before .before .before .before) .loop-test .taken) m n m′ n′ (q .result) (q .ensures .0 (head-in (r .first) m n .head) (head-in (r .second) m′ n′ .head)) (sym ((c .before .before .before .before .before .before .before .before .before .before .before .before) .is-disjoint .ensures) ∙ (c .before .before .before .before .before .before .before .before .before .before .before) .if5 .left)
+            (heads-passed r (some (c .before .before .before .before .before .before .before .before .before .before .before .before .before .before .before .before .before .before .before .before .before .before .before)) m n m′ n′ (q .result) (q .ensures .0 (head-in (r .first) m n .head) (head-in (r .second) m′ n′ .head)) (sym ((c .before .before .before .before .before .before .before .before .before .before .before .before) .is-disjoint .ensures) ∙ (c .before .before .before .before .before .before .before .before .before .before .before) .if5 .left)
             (i .result) (i .ensures .0 (r .first .pattern)) (j .result) (j .ensures .0 (r .second .pattern))),
       )
 
@@ -225,4 +229,4 @@ module _ (t : ℕ) where
   same-length-6 c = (c .before) .loop .inv .2 .length
 
   pub returns-6 : lts.Need-returns-6 (claims t) (at t) heads.Post Inv-loop μ-loop
-  returns-6 c = let h = (c .before) in (λ u v. sym (reached-out (h .loop .inv .3 u v) (c .loop-test .left)), h .loop .inv .2)
+  returns-6 c = let h = (c .before) in (λ u v. sym (reached-out (h .loop .inv .3 u v) (omega (arith, c .loop-test .left))), h .loop .inv .2)

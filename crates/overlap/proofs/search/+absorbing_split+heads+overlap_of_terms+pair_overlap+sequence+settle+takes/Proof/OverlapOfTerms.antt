@@ -73,22 +73,22 @@ module _ (t : ℕ) where
   kept s = searched-same (s .pre .1 .2 .remembers) (s .args .top)
 
   pub returns-2 : lts.Need-returns-2 (claims t) (at t) overlap-of-terms.Post
-  returns-2 c = (λ x y. sym (first-bracket-low x y ((c .before .before) .if1 .taken) (c .if3 .taken)), kept (c .before .before .before .before .before .before .before .before .before))
+  returns-2 c = (λ x y. sym (first-bracket-low x y ((c .before .before) .if1 .taken) (omega (arith, c .if3 .taken))), kept (c .before .before .before .before .before .before .before .before .before))
 
   pub returns-3 : lts.Need-returns-3 (claims t) (at t) overlap-of-terms.Post
-  returns-3 c = (λ x y. sym (first-bracket-high x y ((c .before .before) .if1 .taken) ((c .before) .if2 .left) (c .if3 .left)), kept (c .before .before .before .before .before .before .before .before .before))
+  returns-3 c = (λ x y. sym (first-bracket-high x y ((c .before .before) .if1 .taken) ((c .before) .if2 .left) (omega (arith, c .if3 .left))), kept (c .before .before .before .before .before .before .before .before .before))
 
   pub returns-4 : lts.Need-returns-4 (claims t) (at t) overlap-of-terms.Post
-  returns-4 c = (λ x y. sym (second-bracket-low x y ((c .before) .if4 .taken) (c .if5 .taken)), kept (c .before .before .before .before .before .before .before .before .before))
+  returns-4 c = (λ x y. sym (second-bracket-low x y ((c .before) .if4 .taken) (omega (arith, c .if5 .taken))), kept (c .before .before .before .before .before .before .before .before .before))
 
   pub returns-5 : lts.Need-returns-5 (claims t) (at t) overlap-of-terms.Post
-  returns-5 c = (λ x y. sym (second-bracket-high x y ((c .before) .if4 .taken) ((c .before .before) .if1 .left) (c .if5 .left)), kept (c .before .before .before .before .before .before .before .before .before))
+  returns-5 c = (λ x y. sym (second-bracket-high x y ((c .before) .if4 .taken) ((c .before .before) .if1 .left) (omega (arith, c .if5 .left))), kept (c .before .before .before .before .before .before .before .before .before))
 
   pub returns-6 : lts.Need-returns-6 (claims t) (at t) overlap-of-terms.Post
-  returns-6 c = (λ x y. sym (first-variable x y ((c .before .before) .if1 .left) ((c .before) .if4 .left) (c .if6 .taken)), kept (c .before .before .before .before .before .before .before .before .before))
+  returns-6 c = (λ x y. sym (first-variable x y ((c .before .before) .if1 .left) ((c .before) .if4 .left) (omega (arith, c .if6 .taken))), kept (c .before .before .before .before .before .before .before .before .before))
 
   pub returns-7 : lts.Need-returns-7 (claims t) (at t) overlap-of-terms.Post
-  returns-7 c = (λ x y. sym (second-variable x y ((c .before .before .before) .if1 .left) ((c .before .before) .if4 .left) (c .if7 .taken)), kept (c .before .before .before .before .before .before .before .before .before .before))
+  returns-7 c = (λ x y. sym (second-variable x y ((c .before .before .before) .if1 .left) ((c .before .before) .if4 .left) (omega (arith, c .if7 .taken))), kept (c .before .before .before .before .before .before .before .before .before .before))
 
   -- Both marks are those of literals.
   pub same-symbol-requires : lts.Need-same-symbol-requires (claims t) (at t) overlap-of-terms.Post

@@ -7,11 +7,9 @@ mod unchanged;
 
 use answers::CleanAnswer;
 use answers::Comparison;
-use answers::Lengths;
 use answers::OverlapAnswer;
 use image::part::Found as Place;
 use overlap::Room;
-use patterns::Verdict;
 use program::Refusal;
 use reader::check::Checked;
 ghost use mathlib.Core.Path.{_≡_};

@@ -3,7 +3,7 @@ use crate::number::read16;
 use crate::number::read32;
 ghost use mathlib.Core.Path.{_≡_};
 ghost use mathlib.Core.List.{_∷_};
-ghost use Prim.Native.Nat.{ℕ, suc, _+_, _-_, _*_, _<_, _≤_, min};
+ghost use Prim.Native.Nat.{suc, _+_, _-_, _*_, _<_, _≤_, min};
 ghost use lib.ListN.{length, getD, take, drop};
 ghost use Rattle.program.specs.Encode.{putTerms, putConditions, putSentences, putFunctions, ownSentenceCount};
 ghost use Rattle.program.specs.Limits.{Mode};
@@ -151,15 +151,6 @@ pub fn sentences_start(s: &[u8]) -> usize
     ensures { λ r. ⌜ ((f : FunctionAt (now (s .entry))) → Passes (now (s .entry)) r (putSentences (f .function .sentences) (f .rest))) ⌝ }
 {
     11 + byte_or(s, 10)
-}
-
-// The length of the function at the start of s.
-pub fn function_len(s: &[u8]) -> usize
-    requires { ⌜ FunctionAt (now s) ⌝ }
-    ensures { λ r. ⌜ ((f : FunctionAt (now (s .entry))) → Passes (now (s .entry)) r (f .rest)) ⌝ }
-{
-    let at = sentences_start(s);
-    past(s, at, 1)
 }
 
 pub enum Found {

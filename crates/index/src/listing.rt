@@ -1,9 +1,9 @@
 // The places of functions and sentences, found in one pass.
 use image::part::sentence_len;
 use image::part::sentences_start;
+use restrictions::entry_of;
 ghost use mathlib.Core.Path.{_≡_};
-ghost use mathlib.Core.List.{List};
-ghost use Prim.Native.Nat.{ℕ, _+_, _/_, _%_, _<_, _≤_};
+ghost use Prim.Native.Nat.{ℕ, _+_, _<_, _≤_};
 ghost use lib.ListN.{length, getD, drop};
 ghost use Rattle.program.specs.Sentences.{ownSentences};
 ghost use Rattle.image.specs.Parts.{FunctionsAt};
@@ -22,14 +22,6 @@ pub fn fill(work: &mut [u32], from: usize, end: usize, v: u32)
     }
 }
 
-// The entry of the function at p whose first sentence has that number.
-fn function_entry(p: usize, sentence: usize) -> u32
-    requires { ⌜ (p < 32768) × (sentence < 4096) ⌝ }
-    ensures { λ r. ⌜ (r % 32768 ≡ p) × (r / 32768 % 4096 ≡ sentence) ⌝ }
-{
-    p as u32 + 32768 * (sentence as u32)
-}
-
 // Lists the functions that stand from `from` to the end of the body b, at 0 of work, and their sentences at `lines`.
 pub fn list_functions(b: &[u8], from: usize, work: &mut [u32], lines: usize)
     requires { ⌜ (length (now b) ≤ 32768) × (from ≤ length (now b)) × ((h : FunctionsAt (drop from (now b))) → (length (h .functions) ≤ lines) × (lines + length (ownSentences (h .functions)) ≤ length (now work))) × FunctionsAt (drop from (now b)) ⌝ }
@@ -44,7 +36,7 @@ pub fn list_functions(b: &[u8], from: usize, work: &mut [u32], lines: usize)
     while p < b.len() {
         let m = b[p];
         if m == 18 {
-            work[f] = function_entry(p, s);
+            work[f] = entry_of(p, s);
             f += 1;
             p += sentences_start(&b[p..]);
         } else if m == 10 {

@@ -2,10 +2,7 @@
 use crate::alike::same_names;
 use crate::sentence::put_name;
 use index::Plan;
-use index::names::function_name;
 use index::table::head_site;
-use index::table::place_of;
-use symbols::same_name;
 use text::emit::put_byte;
 use text::emit::put_bytes;
 ghost use mathlib.Core.Path.{_≡_};

@@ -26,7 +26,7 @@ ghost use mathlib.Core.Option.{some};
 ghost use Prim.Native.Nat.{ℕ, _+_, _*_, _<_, _≤_};
 ghost use lib.ListN.{length, getElem?};
 ghost use Rattle.program.specs.Syntax.{Function, Program};
-ghost use Rattle.program.specs.Sentences.{Sentence, ownSentences};
+ghost use Rattle.program.specs.Sentences.{Sentence};
 ghost use Rattle.patterns.specs.Names.{eqBytes};
 ghost use Rattle.patterns.specs.Search.{patternsOverlap};
 ghost use Rattle.meaning.specs.Lists.{any};

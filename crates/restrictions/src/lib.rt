@@ -69,8 +69,8 @@ pub fn call_argument(s: &[u8]) -> usize
     10 + s[9] as usize
 }
 
-// The entry of the site at p, in that sentence.
-fn entry(p: usize, sentence: usize) -> u32
+// A place and the number of a sentence in one entry.
+pub fn entry_of(p: usize, sentence: usize) -> u32
     requires { ⌜ (p < 32768) × (sentence < 4096) ⌝ }
     ensures { λ r. ⌜ (entryOffset r ≡ p) × (entrySentence r ≡ sentence) ⌝ }
 {
@@ -119,7 +119,7 @@ fn collect_call_sites(part: &[u8], at: usize, sentence: usize, sites: &mut [u32]
         } else if m < 7 {
             i += term_len(x);
         } else if m == 8 {
-            sites[k] = entry(at + i, sentence);
+            sites[k] = entry_of(at + i, sentence);
             k += 1;
             i += call_argument(x);
             lists = 1;

@@ -16,7 +16,7 @@ use Rattle.restrictions.proofs.Stage.{toGo, less-on, less-in}
 use Rattle.restrictions.proofs.Going.{Going, bodyWith, body-with, part-of-body, going-first, going-within, going-length, stands, inner-reading, inner-room, inner-fits, descended, flat-part, flat-fits, flat-passed, call-part, call-space, argument-fits, call-passed, sentence-part, none-before, conditions-fits, result-fits, sentence-entered, inside-fits, lists-opened, going-done, resumed, resumed-less}
 use Rattle.restrictions.proofs.after_conditions.Reads as after-conditions-reads
 use Rattle.restrictions.proofs.call_argument.Reads as call-argument-reads
-use Rattle.restrictions.proofs.entry.Reads as entry-reads
+use Rattle.restrictions.proofs.entry_of.Reads as entry-of-reads
 use Rattle.restrictions.proofs.opened.Reads as opened-reads
 use Rattle.restrictions.proofs.collect_call_sites.Reads as collect
 use Rattle.restrictions.proofs.collect_call_sites.Kinds as collect-kinds
@@ -36,7 +36,7 @@ below t = and 2 collect-kinds.ps (falls 2 collect-kinds.ps _<_ μ-collect t) col
 
 abbrev claims : ℕ → lts.Claims
 claims t =
-    (below t, collect.Post, term-len-reads.Asked, term-len-reads.Learnt, entry-reads.Asked, entry-reads.Learnt, call-argument-reads.Asked, call-argument-reads.Learnt, conditions-start-reads.Asked, conditions-start-reads.Learnt, result-start-reads.Asked, result-start-reads.Learnt, opened-reads.Asked, opened-reads.Learnt, after-conditions-reads.Asked, after-conditions-reads.Learnt)
+    (below t, collect.Post, term-len-reads.Asked, term-len-reads.Learnt, entry-of-reads.Asked, entry-of-reads.Learnt, call-argument-reads.Asked, call-argument-reads.Learnt, conditions-start-reads.Asked, conditions-start-reads.Learnt, result-start-reads.Asked, result-start-reads.Learnt, opened-reads.Asked, opened-reads.Learnt, after-conditions-reads.Asked, after-conditions-reads.Learnt)
 
 abbrev Inv-loop : lts.InvT-loop
 Inv-loop part at sentence sites₀ n i₀ k₀ lists₀ next₀ sites i k lists next = (i ≤ length part) × (0 < lists → 0 < i) × ((b : List ℕ) (r : RecordsAt part) → drop at b ≡ part → Going b part sentence sites₀ n sites i k lists next r)
@@ -184,15 +184,15 @@ module _ (t : ℕ) where
       let f = flat-fits g u m (x .result) (x .ensures Mode.result (flat-part g u m)) in
       less-on (length (s .args .part .now)) (omega (arith, s .pre .1 .0)) (h .loop .i) _ (h .loop .next) (omega (arith, f)) (f .1) (stands g) (stands (flat-passed g u m (x .result) (x .ensures Mode.result (flat-part g u m))))
 
-  add-entry : lts.Need-add-entry (claims t) (at t) collect.Post Inv-loop μ-loop
-  add-entry c =
+  add-entry-of : lts.Need-add-entry-of (claims t) (at t) collect.Post Inv-loop μ-loop
+  add-entry-of c =
       let h = c .before .before .before .before .before in
       let s = h .before .before .before in
       let g = given h in
       omega (arith, going-within g, s .pre .1 .0)
 
-  entry-requires : lts.Need-entry-requires (claims t) (at t) collect.Post Inv-loop μ-loop
-  entry-requires c κs =
+  entry-of-requires : lts.Need-entry-of-requires (claims t) (at t) collect.Post Inv-loop μ-loop
+  entry-of-requires c κs =
       let h = c .before .before .before .before .before in
       let s = h .before .before .before in
       let g = given h in
@@ -257,7 +257,7 @@ module _ (t : ℕ) where
       let m = c .before .before .if3 .taken in
       let a = c .call-argument in
       let f = argument-fits g u m (a .result) (a .ensures (call-part g u m)) in
-      let y = c .before .entry in
+      let y = c .before .entry-of in
       let l = call-space g u m (s .pre .1 .2 .room) in
       (f .1, λ l. omega (arith, f), λ b r e. let g = going-at h b r e in call-passed g u m (a .result) (a .ensures (call-part g u m)) (s .args .at) (y .result) e (y .ensures) l)
 
@@ -270,7 +270,7 @@ module _ (t : ℕ) where
       let m = c .before .before .if3 .taken in
       let a = c .call-argument in
       let f = argument-fits g u m (a .result) (a .ensures (call-part g u m)) in
-      let y = c .before .entry in
+      let y = c .before .entry-of in
       let l = call-space g u m (s .pre .1 .2 .room) in
       less-on (length (s .args .part .now)) (omega (arith, s .pre .1 .0)) (h .loop .i) _ (h .loop .next) (omega (arith, f)) (f .1) (stands g) (stands (call-passed g u m (a .result) (a .ensures (call-part g u m)) (s .args .at) (y .result) (body-with (s .args .at) (s .args .part .now)) (y .ensures) l))
 
@@ -436,4 +436,4 @@ pub +collect-call-sites-spec : {M : Type 1} → statement M
 +collect-call-sites-spec =
     close μ-collect
     (λ t. lts.spec (claims t) (at t) collect.Post Inv-loop μ-loop
-    (loop-holds t) (sub-x t) (part-x-start t) (part-x-end t) (shared-slice-read-m t) (add-collect-call-sites t) (collect-call-sites-requires t) (add-i t) (sub-lists t) (loop-less t) (loop-again t) (term-len-requires t) (add-i-2 t) (loop-less-2 t) (loop-again-2 t) (add-entry t) (entry-requires t) (mul-sites t) (slice-write-sites t) (add-k t) (call-argument-requires t) (add-i-3 t) (loop-less-3 t) (loop-again-3 t) (conditions-start-requires t) (add-next t) (result-start-requires t) (add-i-4 t) (loop-less-4 t) (loop-again-4 t) (add-i-5 t) (opened-requires t) (loop-less-5 t) (loop-again-5 t) (add-i-6 t) (same-length t) (returns t) (add-after-conditions t) (after-conditions-requires t) (loop-less-6 t) (loop-again-6 t))
+    (loop-holds t) (sub-x t) (part-x-start t) (part-x-end t) (shared-slice-read-m t) (add-collect-call-sites t) (collect-call-sites-requires t) (add-i t) (sub-lists t) (loop-less t) (loop-again t) (term-len-requires t) (add-i-2 t) (loop-less-2 t) (loop-again-2 t) (add-entry-of t) (entry-of-requires t) (mul-sites t) (slice-write-sites t) (add-k t) (call-argument-requires t) (add-i-3 t) (loop-less-3 t) (loop-again-3 t) (conditions-start-requires t) (add-next t) (result-start-requires t) (add-i-4 t) (loop-less-4 t) (loop-again-4 t) (add-i-5 t) (opened-requires t) (loop-less-5 t) (loop-again-5 t) (add-i-6 t) (same-length t) (returns t) (add-after-conditions t) (after-conditions-requires t) (loop-less-6 t) (loop-again-6 t))

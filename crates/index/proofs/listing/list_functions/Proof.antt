@@ -25,10 +25,10 @@ loop-holds c = (c .before .before .pre .1, λ h. listing-first (c .before .befor
 shared-slice-read-m : tie.Need-shared-slice-read-m Inv-loop μ-loop
 shared-slice-read-m c = c .before .loop-test .taken
 
-function-entry-requires : tie.Need-function-entry-requires Inv-loop μ-loop
-function-entry-requires c κs = let t = c .before .before .loop-test .taken in (omega (arith, t, c .before .before .before .before .before .before .pre .0), listing-small (given (c .before .before .before)) t (c .before .before .before .before .before .before .pre .0) .0)
+entry-of-requires : tie.Need-entry-of-requires Inv-loop μ-loop
+entry-of-requires c κs = let t = c .before .before .loop-test .taken in (omega (arith, t, c .before .before .before .before .before .before .pre .0), listing-small (given (c .before .before .before)) t (c .before .before .before .before .before .before .pre .0) .0)
 
-function-fit : (c : tie.After-function-entry Inv-loop μ-loop) → c .before .before .before .before .loop .f < length (c .before .before .before .before .loop .work)
+function-fit : (c : tie.After-entry-of Inv-loop μ-loop) → c .before .before .before .before .loop .f < length (c .before .before .before .before .loop .work)
 function-fit c = omega (arith, function-room (given (c .before .before .before .before)) (c .before .before .before .loop-test .taken) (c .before .if1 .taken) (c .before .before .before .before .before .before .before .pre .2 (c .before .before .before .before .before .before .before .pre .3) .0), c .before .before .before .before .before .before .before .pre .2 (c .before .before .before .before .before .before .before .pre .3) .1, given (c .before .before .before .before) .size)
 
 mul-work : tie.Need-mul-work Inv-loop μ-loop
@@ -69,7 +69,7 @@ loop-again c =
       function-fits c .1,
       λ h.
           let w = c .before .before .before .before .before .before .loop .inv .1 h in
-          let e = c .before .before .function-entry in
+          let e = c .before .before .entry-of in
           listing-function w t m (e .result) (e .ensures .0) (e .ensures .1) (c .sentences-start .result) (c .sentences-start .ensures (place-part (c .before .before .before .before .before .before .before .before .before .args .b .now) (c .before .before .before .before .before .before .loop .p) (w .place) t m)) (function-fit (c .before .before)) (c .before .before .before .before .before .before .before .before .before .pre .2 h .0),
     )
 
@@ -151,7 +151,7 @@ list-functions-spec =
     μ-loop
     loop-holds
     shared-slice-read-m
-    function-entry-requires
+    entry-of-requires
     mul-work
     slice-write-work
     add-f

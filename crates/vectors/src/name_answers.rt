@@ -1,6 +1,7 @@
 // The comparison of names: data/names, which tools/name_vectors.py writes, has a record for each pair,
 // and that script says how a record is laid out.
 use crate::records::Asked;
+use crate::records::pair;
 use crate::records::read_image;
 
 // Whether two names compare as they should.
@@ -18,8 +19,8 @@ pub fn ask_next(fd: i32, first: &mut [u8], second: &mut [u8]) -> Asked {
     if io::read_full(fd, &mut h) < 4 {
         return Asked::Ended;
     }
-    let n = read_image(fd, first, 0, h[0] as usize);
-    let m = read_image(fd, second, 0, h[1] as usize);
-    let ok = is_answered(&first[..n], &second[..m], h[2] == 1, h[3] as usize);
+    let n = read_image(fd, first, 0, pair(h[0], 0));
+    let m = read_image(fd, second, 0, pair(h[1], 0));
+    let ok = is_answered(&first[..n], &second[..m], h[2] == 1, pair(h[3], 0));
     Asked::Answered(n, ok)
 }

@@ -15,7 +15,8 @@ and then the report, and they become the current ones; a record with number 0 is
 about the current ones, and says their lengths again.
 
 Refusals 1 and 4 to 11 come from reader.py only, and 2 and 3 from the lengths; cleaned
-images and reports, and so refusal 12, come from the Rust only. An image that the Rust
+images and reports, and so refusal 12, come from the Rust only, the reports' last lines
+as document 02 asks for them (tools/oracle/main.rs, `departing_line`). An image that the Rust
 does not clean in time is left out. Every group below is a function that yields images,
 and each image is asked with several lent lengths; counts by group go to standard error.
 """

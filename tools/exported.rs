@@ -1,5 +1,5 @@
 // Appended to a copy of tools/oracle/main.rs by tools/linked.py, because its functions
-// between images and programs are private there.
+// between images and programs, and its text of a report, are private there.
 // Nothing above is changed.
 
 /// The program of an accepted image.
@@ -10,6 +10,11 @@ pub fn program_of(image: &[u8]) -> CoreProgram {
 /// The image of a program, trailer included.
 pub fn image_of(program: &CoreProgram) -> Vec<u8> {
     encode(program)
+}
+
+/// The text of a report, its last line as document 02 asks for it.
+pub fn text_of(report: &CleanReport) -> String {
+    report_text(report)
 }
 
 /// The verdict (0 Disjoint, 1 Overlap, 2 Unknown) on two sentences, and the entries spent.

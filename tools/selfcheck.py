@@ -339,7 +339,7 @@ rounds: 1
 removed: 0
 undecided: 0
 uncovered: 0
-graph: perfect
+graph: empty
 """
 
 
@@ -355,7 +355,7 @@ def check_oracle(path):
         for number, (first, second, verdict, spent) in enumerate(CASES, 1):
             answer = oracle.overlap(one_function([terms(first), terms(second)]), 0, 1)
             check(answer == (verdict, spent), f"overlap case {number}: {answer}")
-        print(f"oracle: worked example, 12 zeros and {len(CASES)} overlap cases as in document 01")
+        print(f"oracle: worked example, 12 zeros and {len(CASES)} overlap cases as in document 01, empty as in 02")
         check_example_reports(oracle)
         check_oracle_on_programs(oracle)
         check_overlap_corpus(oracle)

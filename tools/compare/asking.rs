@@ -1,6 +1,6 @@
 //! What both entry points must answer about an image, and whether they do.
 
-use refal_core::{CleanReport, CoreProgram, clean_residual_program, format_clean_report};
+use refal_core::{CleanReport, CoreProgram, clean_residual_program};
 
 use crate::dice::Dice;
 use crate::lent::{self, Lengths};
@@ -31,7 +31,7 @@ pub struct Counts {
     pub verdicts: [usize; 3],
 }
 
-/// What the Rust makes of an accepted image.
+/// What the Rust makes of an accepted image; the report's last line is as document 02 asks for it.
 struct Reference {
     program: CoreProgram,
     cleaned: Vec<u8>,
@@ -45,7 +45,7 @@ impl Reference {
         let (cleaned, lists) = clean_residual_program(&program);
         Reference {
             cleaned: oracle::image_of(&cleaned),
-            report: format_clean_report(&lists).into_bytes(),
+            report: oracle::text_of(&lists).into_bytes(),
             program,
             lists,
         }

@@ -21,7 +21,7 @@ use std::fs;
 use std::process;
 use std::time::Duration;
 
-use refal_core::{clean_residual_program, format_clean_report};
+use refal_core::clean_residual_program;
 
 use library::Lent;
 use measure::{capped, typical_seconds};
@@ -104,7 +104,7 @@ fn clean_reference(image: &[u8]) -> (f64, Written) {
     let (seconds, (cleaned, report)) = typical_seconds(|| clean_residual_program(&program));
     let written = (
         oracle::image_of(&cleaned),
-        format_clean_report(&report).into_bytes(),
+        oracle::text_of(&report).into_bytes(),
     );
     (seconds, written)
 }

@@ -5,7 +5,8 @@
 //! little-endian; "bytes" is a u32 length and then that many bytes.
 //!
 //!     request CLEAN:   u8 1, bytes image
-//!     answer:          bytes cleaned image, bytes report text
+//!     answer:          bytes cleaned image, bytes report text (its last line as
+//!                      document 02 asks for it: `departing_line`)
 //!
 //!     request OVERLAP: u8 2, bytes image, u32 first, u32 second
 //!     answer:          u8 verdict (0 Disjoint, 1 Overlap, 2 Unknown),
@@ -19,7 +20,7 @@ use std::io::{self, BufReader, BufWriter, Read, Write};
 
 use refal_ast::{Span, VariableKind, Visibility};
 use refal_core::{
-    CoreCondition, CoreDeclaration, CoreFunction, CoreProgram, CoreSentence, CoreTerm,
+    CleanReport, CoreCondition, CoreDeclaration, CoreFunction, CoreProgram, CoreSentence, CoreTerm,
     CoreTermKind, PatternCompatibility, clean_residual_program, format_clean_report,
     oracle_overlap_spent, oracle_patterns_overlap,
 };
@@ -63,7 +64,27 @@ fn answer_clean(input: &mut impl Read, output: &mut impl Write) -> io::Result<()
     let image = read_bytes(input)?;
     let (cleaned, report) = clean_residual_program(&decode(&image));
     write_bytes(output, &encode(&cleaned))?;
-    write_bytes(output, format_clean_report(&report).as_bytes())
+    write_bytes(output, report_text(&report).as_bytes())
+}
+
+/// The text of a report: the Rust's, with the last line that document 02 asks for.
+/// Every report that the tools hold to the product's comes from here.
+fn report_text(report: &CleanReport) -> String {
+    let text = format_clean_report(report);
+    let last = text[..text.len() - 1].rfind('\n').map_or(0, |end| end + 1);
+    match departing_line(report) {
+        Some(line) => text[..last].to_owned() + &line,
+        None => text,
+    }
+}
+
+/// The last line where it departs from the Rust's.
+fn departing_line(report: &CleanReport) -> Option<String> {
+    // "It should end its report with `graph: empty`, declarations or not"
+    if report.functions == 0 {
+        return Some("graph: empty\n".to_owned());
+    }
+    None
 }
 
 fn answer_overlap(input: &mut impl Read, output: &mut impl Write) -> io::Result<()> {

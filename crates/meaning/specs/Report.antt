@@ -1,7 +1,8 @@
 -- The text of a report: the Rust's `format_clean_report`. "Lines give functions, own sentences before and after, rounds, each list's count and entries, the verdict."
-use Prim.Native.Nat.{ℕ, zero, suc}
-use mathlib.Core.Bool.{Bool, true, false}
+use Prim.Native.Nat.{_+_}
+use mathlib.Core.Bool.{Bool, true, false, cond}
 use mathlib.Core.List.{List, [], _∷_, _++_, map, flatMap, flatten}
+use lib.Dec.{eqb}
 use lib.ListN.{length}
 use Rattle.program.specs.Syntax.{Name}
 use Rattle.patterns.specs.Ascii.{ascii}
@@ -27,22 +28,16 @@ undecidedLine x = flatten (ascii "  " ∷ x .function ∷ ascii " {" ∷ x .patt
 unfoldable pub uncoveredLine : UncoveredRestriction → Text
 uncoveredLine x = flatten (ascii "  " ∷ x .function ∷ ascii " <- " ∷ x .input ∷ ascii "\n" ∷ [])
 
--- The Rust's `Perfection`.
-pub data Perfection : Type 0 where
-  perfect unknown : Perfection
-  clean : ℕ → ℕ → Perfection
-
--- The Rust's `perfection`, of the dispatch and the counts of undecided and uncovered.
-unfoldable pub perfection : Bool → ℕ → ℕ → Perfection
-perfection true u v = Perfection.unknown
-perfection false zero zero = Perfection.perfect
-perfection false zero (suc v) = Perfection.clean zero (suc v)
-perfection false (suc u) v = Perfection.clean (suc u) v
-
-unfoldable pub graphLine : Perfection → Text
-graphLine Perfection.perfect = ascii "graph: perfect\n"
-graphLine Perfection.unknown = ascii "graph: unknown\n"
-graphLine (Perfection.clean u v) = flatten (ascii "graph: clean (undecided " ∷ decimal u ∷ ascii ", uncovered " ∷ decimal v ∷ ascii ")\n" ∷ [])
+-- The last line, "the verdict": the Rust's `perfection`, but for document 02's clause.
+unfoldable pub graphLine : CleanReport → Text
+graphLine r =
+    -- "Any `Mu` or `Up` call: same bytes out, rounds 0, verdict unknown."
+    cond (r .dynamicDispatch) (ascii "graph: unknown\n")
+    -- "an image with no functions": "It should end its report with `graph: empty`, declarations or not"
+    (cond (eqb (r .functions) 0) (ascii "graph: empty\n")
+    -- the lines of the Rust, perfect if nothing is undecided or uncovered
+    (cond (eqb (length (r .undecided) + length (r .uncovered)) 0) (ascii "graph: perfect\n")
+    (flatten (ascii "graph: clean (undecided " ∷ decimal (length (r .undecided)) ∷ ascii ", uncovered " ∷ decimal (length (r .uncovered)) ∷ ascii ")\n" ∷ []))))
 
 unfoldable pub uncharacterisedLine : List Name → Text
 uncharacterisedLine [] = []
@@ -56,7 +51,7 @@ dispatchLine false = []
 unfoldable pub lastLines : CleanReport → Text
 lastLines r =
     uncharacterisedLine (r .uncharacterised)
-    ++ (dispatchLine (r .dynamicDispatch) ++ graphLine (perfection (r .dynamicDispatch) (length (r .undecided)) (length (r .uncovered))))
+    ++ (dispatchLine (r .dynamicDispatch) ++ graphLine r)
 
 unfoldable pub formatCleanReport : CleanReport → Text
 formatCleanReport r =

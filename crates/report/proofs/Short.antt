@@ -3,10 +3,10 @@ use Prim.Native.Nat.{ℕ, zero, suc, _+_, _*_, _≤_, _<_}
 use native.Mathlib.Omega.{arith}
 use native.Mathlib.Nat.{mul-le-mul}
 use mathlib.Core.Path.{_≡_, refl, sym, _∙_}
-use mathlib.Core.Bool.{Bool, true, false}
-use mathlib.Core.List.{List, [], _∷_, _++_, flatMap}
+use mathlib.Core.Bool.{Bool, true, false, cond}
+use mathlib.Core.List.{List, [], _∷_, _++_, flatten, flatMap}
 use borrow.Author.Tests.{leb-true, leb-false}
-use lib.Dec.{leb}
+use lib.Dec.{eqb, leb}
 use lib.ListN.{length, length-append}
 use Rattle.program.specs.Syntax.{Program}
 use Rattle.program.specs.Encode.{ownSentenceCount}
@@ -14,29 +14,18 @@ use Rattle.patterns.specs.Ascii.{ascii}
 use Rattle.program.proofs.Own.{own-counted}
 use Rattle.index.specs.declared.Plan.{Plan}
 use Rattle.meaning.specs.Root.{rootPlace}
+use Rattle.meaning.specs.Text.{Text}
 use Rattle.meaning.specs.CleanReport.{CleanReport, sameUndecided, sameUncovered}
 use Rattle.told.specs.History.{isThere}
 use Rattle.told.specs.Numbered.{sitesOf}
 use Rattle.told.specs.ToldReport.{undecidedTold, uncoveredTold, toldReport, unchangedReport}
 use Rattle.meaning.specs.Decimal.{decimal}
-use Rattle.meaning.specs.Report.{removedLine, undecidedLine, uncoveredLine, Perfection, perfection, graphLine, uncharacterisedLine, dispatchLine, lastLines, formatCleanReport}
+use Rattle.meaning.specs.Report.{removedLine, undecidedLine, uncoveredLine, graphLine, uncharacterisedLine, dispatchLine, lastLines, formatCleanReport}
 use Rattle.meaning.proofs.Decimal.{decimal-length}
 use Rattle.report.specs.Emitting.{Readable}
 use Rattle.told.proofs.AtMost.{runs-among, most-among, flatten-length, lines-length}
 use Rattle.told.proofs.Fallen.{start-count}
 use Rattle.report.proofs.Fits.{functions-fit, sites-fit, removed-most, undecided-most, uncovered-most, uncharacterised-most, uncharacterised-line}
-
-clean-length : (u v : ℕ) → u < 100000000000000000 → v < 100000000000000000 → length (graphLine (Perfection.clean u v)) ≤ 72
-unfolding graphLine ascii
-clean-length u v h g =
-    omega (arith, flatten-length (ascii "graph: clean (undecided " ∷ decimal u ∷ ascii ", uncovered " ∷ decimal v ∷ ascii ")\n" ∷ []), decimal-length 16 u h, decimal-length 16 v g)
-
-graph-length : (t : Bool) (u v : ℕ) → u < 100000000000000000 → v < 100000000000000000 → length (graphLine (perfection t u v)) ≤ 72
-unfolding perfection graphLine ascii
-graph-length true u v h g = omega arith
-graph-length false zero zero h g = omega arith
-graph-length false zero (suc v) h g = clean-length zero (suc v) h g
-graph-length false (suc u) v h g = clean-length (suc u) v h g
 
 -- The numbers of a report have at most 17 digits.
 record Small (r : CleanReport) : Type 0 where
@@ -48,6 +37,22 @@ record Small (r : CleanReport) : Type 0 where
   pub undecided : length (r .undecided) < 100000000000000000
   pub uncovered : length (r .uncovered) < 100000000000000000
 
+-- Whichever verdict it is, it is no longer than the longest.
+chosen-length : (t f n : Bool) (a b d e : Text) → length a ≤ 72 → length b ≤ 72 → length d ≤ 72 → length e ≤ 72 → length (cond t a (cond f b (cond n d e))) ≤ 72
+chosen-length true f n a b d e g h j k = g
+chosen-length false true n a b d e g h j k = h
+chosen-length false false true a b d e g h j k = j
+chosen-length false false false a b d e g h j k = k
+
+graph-length : (r : CleanReport) → Small r → length (graphLine r) ≤ 72
+unfolding graphLine ascii
+graph-length r h =
+    let u = length (r .undecided) in
+    let v = length (r .uncovered) in
+    let clean = ascii "graph: clean (undecided " ∷ decimal u ∷ ascii ", uncovered " ∷ decimal v ∷ ascii ")\n" ∷ [] in
+    chosen-length (r .dynamicDispatch) (eqb (r .functions) 0) (eqb (u + v) 0) (ascii "graph: unknown\n") (ascii "graph: empty\n") (ascii "graph: perfect\n") (flatten clean) (omega arith) (omega arith) (omega arith)
+    (omega (arith, flatten-length clean, decimal-length 16 u (h .undecided), decimal-length 16 v (h .uncovered)))
+
 dispatch-length : (t : Bool) → length (dispatchLine t) ≤ 40
 unfolding dispatchLine ascii
 dispatch-length true = omega arith
@@ -58,7 +63,7 @@ report-length : (r : CleanReport) → Small r
     → length (formatCleanReport r) ≤ 400 + (length (flatMap removedLine (r .removed)) + (length (flatMap undecidedLine (r .undecided)) + (length (flatMap uncoveredLine (r .uncovered)) + length (uncharacterisedLine (r .uncharacterised)))))
 unfolding formatCleanReport lastLines ascii
 report-length r h =
-    let g = graphLine (perfection (r .dynamicDispatch) (length (r .undecided)) (length (r .uncovered))) in
+    let g = graphLine r in
     omega (
       arith,
       flatten-length (ascii "functions: " ∷ decimal (r .functions)
@@ -71,7 +76,7 @@ report-length r h =
       length-append (uncharacterisedLine (r .uncharacterised)) (dispatchLine (r .dynamicDispatch) ++ g),
       length-append (dispatchLine (r .dynamicDispatch)) g,
       dispatch-length (r .dynamicDispatch),
-      graph-length (r .dynamicDispatch) (length (r .undecided)) (length (r .uncovered)) (h .undecided) (h .uncovered),
+      graph-length r h,
       decimal-length 16 (r .functions) (h .functions),
       decimal-length 16 (r .sentencesBefore) (h .before),
       decimal-length 16 (r .sentencesAfter) (h .after),

@@ -2,7 +2,7 @@
 use Prim.Native.Nat.{ℕ, suc, _+_, _*_, _<_, _≤_}
 use native.Mathlib.Omega.{arith}
 use mathlib.Core.Path.{_≡_, refl, sym, ap, ap₂, subst, _∙_}
-use mathlib.Core.Bool.{Bool, false}
+use mathlib.Core.Bool.{Bool}
 use mathlib.Core.List.{List, [], _∷_, _++_, map, flatten, flatMap, append-assoc}
 use lib.ListN.{length, length-append, length-map}
 use Rattle.program.specs.Syntax.{Program}
@@ -19,10 +19,10 @@ use Rattle.told.specs.History.{isThere, afterAll}
 use Rattle.told.specs.Numbered.{sitesOf}
 use Rattle.told.specs.ToldReport.{fallenFrom, sameFallen, removedOf, undecidedTold, uncoveredTold, runsAfter, uncharacterisedNames, toldReport}
 use Rattle.told.proofs.History.{there-after}
-use Rattle.text.specs.Counts.{countLine, topText}
+use Rattle.text.specs.Counts.{countLine, topText, graphText}
 use Rattle.text.specs.Fill.{Emitted}
-use Rattle.meaning.specs.Report.{removedLine, undecidedLine, uncoveredLine, uncharacterisedLine, dispatchLine, perfection, graphLine, lastLines, formatCleanReport}
-use Rattle.text.proofs.Pieces.{report-pieces}
+use Rattle.meaning.specs.Report.{removedLine, undecidedLine, uncoveredLine, uncharacterisedLine, dispatchLine, lastLines, formatCleanReport}
+use Rattle.text.proofs.Pieces.{graph-told, report-pieces}
 use Rattle.text.proofs.Fill.{filled-empty, emitted-append, emitted-same, emitted-length}
 use Rattle.report.specs.declared.format.Figures.{Figures}
 use Rattle.report.specs.Format.{listsText, listedText}
@@ -137,19 +137,21 @@ report-whole r =
 
 pub whole-told : (w : Program) (fell : ℕ → ℕ) (n : ℕ) (p : Plan) (root : ℕ) (g : Figures) → FiguresOf (toldReport w fell n) g → length (w .functions) ≡ p .functions → length (ownSentences (w .functions)) ≡ p .sentences → root ≡ rootPlace w
     → topText (p .functions) (p .sentences) (g .after) n (g .removed)
-    ++ (listsText (toldReport w fell n) ++ (uncharacterisedLine (firsts sameName (uncharacterisedNames root (sitesOf w) 0 (w .functions))) ++ graphLine (perfection false (g .undecided) (g .uncovered)))) ≡ formatCleanReport (toldReport w fell n)
+    ++ (listsText (toldReport w fell n) ++ (uncharacterisedLine (firsts sameName (uncharacterisedNames root (sitesOf w) 0 (w .functions))) ++ graphText (p .functions) (g .undecided) (g .uncovered))) ≡ formatCleanReport (toldReport w fell n)
 unfolding toldReport lastLines dispatchLine
 whole-told w fell n p root g f e h k =
     let functions = sym e in
     let sentences = sym h ∙ own-counted (w .functions) in
+    let r = toldReport w fell n in
     (λ i. topText (functions i) (sentences i) (f .after i) n (f .removed i)
-    ++ (listsText (toldReport w fell n) ++ (uncharacterisedLine (firsts sameName (uncharacterisedNames (k i) (sitesOf w) 0 (w .functions))) ++ graphLine (perfection false (f .undecided i) (f .uncovered i)))))
-    ∙ report-whole (toldReport w fell n)
+    ++ (listsText r ++ (uncharacterisedLine (firsts sameName (uncharacterisedNames (k i) (sitesOf w) 0 (w .functions))) ++ graphText (functions i) (f .undecided i) (f .uncovered i))))
+    ∙ (ap (λ (t : Text). topText (r .functions) (r .sentencesBefore) (r .sentencesAfter) (r .rounds) (length (r .removed)) ++ (listsText r ++ (uncharacterisedLine (r .uncharacterised) ++ t))) (graph-told r refl)
+    ∙ report-whole r)
 
 -- The same, with the uncharacterised functions beside the lists, as it is written.
 pub whole-listed : (w : Program) (fell : ℕ → ℕ) (n : ℕ) (p : Plan) (root : ℕ) (g : Figures) → FiguresOf (toldReport w fell n) g → length (w .functions) ≡ p .functions → length (ownSentences (w .functions)) ≡ p .sentences → root ≡ rootPlace w
-    → topText (p .functions) (p .sentences) (g .after) n (g .removed) ++ (listedText w root fell n ++ graphLine (perfection false (g .undecided) (g .uncovered))) ≡ formatCleanReport (toldReport w fell n)
+    → topText (p .functions) (p .sentences) (g .after) n (g .removed) ++ (listedText w root fell n ++ graphText (p .functions) (g .undecided) (g .uncovered)) ≡ formatCleanReport (toldReport w fell n)
 unfolding listedText
 whole-listed w fell n p root g f e h k =
-    ap (λ (t : Text). topText (p .functions) (p .sentences) (g .after) n (g .removed) ++ t) (append-assoc (listsText (toldReport w fell n)) (uncharacterisedLine (firsts sameName (uncharacterisedNames root (sitesOf w) 0 (w .functions)))) (graphLine (perfection false (g .undecided) (g .uncovered))))
+    ap (λ (t : Text). topText (p .functions) (p .sentences) (g .after) n (g .removed) ++ t) (append-assoc (listsText (toldReport w fell n)) (uncharacterisedLine (firsts sameName (uncharacterisedNames root (sitesOf w) 0 (w .functions)))) (graphText (p .functions) (g .undecided) (g .uncovered)))
     ∙ whole-told w fell n p root g f e h k

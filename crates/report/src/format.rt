@@ -169,7 +169,7 @@ pub fn format_clean_report(
         figures.removed,
     );
     let lists = with_lists(b, work, plan, root, rounds, figures, top);
-    let all = with_graph(lists, figures.undecided, figures.uncovered);
+    let all = with_graph(lists, plan.functions, figures.undecided, figures.uncovered);
     all.filled
 }
 
@@ -201,5 +201,11 @@ pub fn measure_clean_report(
     let third = put_count_line(none, uncovered, b"uncovered: ", figures.uncovered);
     let open = third + figures.uncovered_length;
     let fourth = put_uncharacterised(b, work, plan, root, none, open);
-    put_graph(none, fourth, figures.undecided, figures.uncovered)
+    put_graph(
+        none,
+        fourth,
+        plan.functions,
+        figures.undecided,
+        figures.uncovered,
+    )
 }

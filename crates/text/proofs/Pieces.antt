@@ -1,10 +1,11 @@
--- The report's last line by the counts of the two final lists, and the report in the pieces in which it is emitted.
-use Prim.Native.Nat.{ℕ, zero, suc, _+_}
-use native.Mathlib.Omega.{arith}
-use mathlib.Core.Path.{_≡_, refl, sym, ap₂, _∙_}
-use mathlib.Core.Bool.{false}
+-- The report's last line by its numbers, and the report in the pieces in which it is emitted.
+use Prim.Native.Nat.{ℕ, _+_}
+use mathlib.Core.Path.{_≡_, refl, sym, ap, ap₂, _∙_}
+use mathlib.Core.Bool.{Bool, false, cond}
 use mathlib.Core.List.{[], _∷_, _++_, append-assoc, append-nil, flatten, flatMap}
+use lib.Dec.{eqb}
 use lib.ListN.{length}
+use borrow.Author.Tests.{eq-eqb, ne-eqb}
 use Rattle.program.specs.Syntax.{Program}
 use Rattle.program.specs.Encode.{ownSentenceCount}
 use Rattle.patterns.specs.Ascii.{ascii}
@@ -12,20 +13,43 @@ use Rattle.meaning.specs.Text.{Text}
 use Rattle.meaning.specs.CleanReport.{CleanReport}
 use Rattle.told.specs.ToldReport.{unchangedReport}
 use Rattle.meaning.specs.Decimal.{decimal}
-use Rattle.meaning.specs.Report.{Perfection, perfection, graphLine, removedLine, undecidedLine, uncoveredLine, uncharacterisedLine, dispatchLine, lastLines, formatCleanReport}
-use Rattle.text.specs.Counts.{counted, countLine, topText, unchangedText}
+use Rattle.meaning.specs.Report.{graphLine, removedLine, undecidedLine, uncoveredLine, uncharacterisedLine, dispatchLine, lastLines, formatCleanReport}
+use Rattle.text.specs.Counts.{counted, countLine, topText, unchangedText, cleanText, graphText}
 
-pub perfect-none : (u v : ℕ) → u + v ≡ 0 → perfection false u v ≡ Perfection.perfect
-unfolding perfection
-perfect-none zero zero e = refl
-perfect-none zero (suc v) e = absurd (omega (arith, e))
-perfect-none (suc u) v e = absurd (omega (arith, e))
+-- ---- the verdict by its numbers
 
-pub perfect-some : (u v : ℕ) → (u + v ≡ 0 → ⊥) → perfection false u v ≡ Perfection.clean u v
-unfolding perfection
-perfect-some zero zero d = absurd (d (omega arith))
-perfect-some zero (suc v) d = refl
-perfect-some (suc u) v d = refl
+pub graph-empty : (f u v : ℕ) → f ≡ 0 → ascii "graph: empty\n" ≡ graphText f u v
+unfolding graphText
+graph-empty f u v e = sym (ap (λ (t : Bool). cond t (ascii "graph: empty\n") (cond (eqb (u + v) 0) (ascii "graph: perfect\n") (cleanText u v))) (eq-eqb f 0 e))
+
+-- Of a program with functions.
+graph-some : (f u v : ℕ) → (f ≡ 0 → ⊥) → cond (eqb (u + v) 0) (ascii "graph: perfect\n") (cleanText u v) ≡ graphText f u v
+unfolding graphText
+graph-some f u v d = sym (ap (λ (t : Bool). cond t (ascii "graph: empty\n") (cond (eqb (u + v) 0) (ascii "graph: perfect\n") (cleanText u v))) (ne-eqb f 0 d))
+
+pub graph-perfect : (f u v : ℕ) → (f ≡ 0 → ⊥) → u + v ≡ 0 → ascii "graph: perfect\n" ≡ graphText f u v
+graph-perfect f u v d n = sym (ap (λ (t : Bool). cond t (ascii "graph: perfect\n") (cleanText u v)) (eq-eqb (u + v) 0 n)) ∙ graph-some f u v d
+
+pub graph-clean : (f u v : ℕ) → (f ≡ 0 → ⊥) → (u + v ≡ 0 → ⊥) → cleanText u v ≡ graphText f u v
+graph-clean f u v d n = sym (ap (λ (t : Bool). cond t (ascii "graph: perfect\n") (cleanText u v)) (ne-eqb (u + v) 0 n)) ∙ graph-some f u v d
+
+clean-text : (u v : ℕ) → cleanText u v ≡ flatten (ascii "graph: clean (undecided " ∷ decimal u ∷ ascii ", uncovered " ∷ decimal v ∷ ascii ")\n" ∷ [])
+unfolding cleanText flatten counted
+clean-text u v = simp (append-assoc, append-nil) refl
+
+-- It is the report's last line, if there is no dynamic dispatch.
+pub graph-told : (r : CleanReport) → r .dynamicDispatch ≡ false → graphText (r .functions) (length (r .undecided)) (length (r .uncovered)) ≡ graphLine r
+unfolding graphText graphLine
+graph-told r e =
+    let u = length (r .undecided) in
+    let v = length (r .uncovered) in
+    (λ i. cond (eqb (r .functions) 0) (ascii "graph: empty\n") (cond (eqb (u + v) 0) (ascii "graph: perfect\n") (clean-text u v i)))
+    ∙ by (r .dynamicDispatch) (ascii "graph: unknown\n") _ e
+  where
+    by : (t : Bool) (a b : Text) → t ≡ false → b ≡ cond t a b
+    by t a b d = sym (ap (λ (x : Bool). cond x a b) d)
+
+-- ---- the report in pieces
 
 regroup : (a b c d e f g h i j k r l m n u o p q v z : Text)
     → flatten (a ∷ b ∷ c ∷ d ∷ e ∷ f ∷ g ∷ h ∷ i ∷ j ∷ k ∷ r ∷ l ∷ m ∷ n ∷ u ∷ o ∷ p ∷ q ∷ v ∷ z ∷ []) ≡ ((a ++ b) ++ ((c ++ d) ++ ((e ++ f) ++ ((g ++ h) ++ ((i ++ j) ++ k))))) ++ (r ++ (((l ++ m) ++ n) ++ (u ++ (((o ++ p) ++ q) ++ (v ++ z)))))
@@ -40,11 +64,7 @@ unfolding topText countLine counted formatCleanReport
 report-pieces r = sym (regroup (ascii "functions: ") (decimal (r .functions)) (ascii "\nsentences: ") (decimal (r .sentencesBefore)) (ascii " -> ") (decimal (r .sentencesAfter)) (ascii "\nrounds: ") (decimal (r .rounds)) (ascii "\nremoved: ") (decimal (length (r .removed))) (ascii "\n") (flatMap removedLine (r .removed))
     (ascii "undecided: ") (decimal (length (r .undecided))) (ascii "\n") (flatMap undecidedLine (r .undecided)) (ascii "uncovered: ") (decimal (length (r .uncovered))) (ascii "\n") (flatMap uncoveredLine (r .uncovered)) (lastLines r))
 
-pub clean-text : (u v : ℕ) → graphLine (Perfection.clean u v) ≡ counted (ascii "graph: clean (undecided ") u ++ (counted (ascii ", uncovered ") v ++ ascii ")\n")
-unfolding graphLine flatten counted
-clean-text u v = simp (append-assoc, append-nil) refl
-
 -- The report of a program that is left alone.
 pub unchanged-text : (w : Program) (functions sentences : ℕ) → length (w .functions) ≡ functions → ownSentenceCount (w .functions) ≡ sentences → unchangedText functions sentences ≡ formatCleanReport (unchangedReport w)
-unfolding unchangedText unchangedReport lastLines uncharacterisedLine dispatchLine perfection graphLine flatMap flatten ascii
+unfolding unchangedText unchangedReport lastLines uncharacterisedLine dispatchLine graphLine flatMap flatten ascii
 unchanged-text w functions sentences e f = sym (ap₂ (λ (n m : ℕ). unchangedText n m) e f) ∙ report-pieces (unchangedReport w)

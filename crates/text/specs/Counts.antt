@@ -1,6 +1,8 @@
 -- The report's lines with numbers, in the pieces in which they are emitted.
-use Prim.Native.Nat.{ℕ}
+use Prim.Native.Nat.{ℕ, _+_}
+use mathlib.Core.Bool.{cond}
 use mathlib.Core.List.{_++_}
+use lib.Dec.{eqb}
 use Rattle.patterns.specs.Ascii.{ascii}
 use Rattle.meaning.specs.Text.{Text}
 use Rattle.meaning.specs.Decimal.{decimal}
@@ -23,3 +25,14 @@ topText functions before after rounds removed =
 unfoldable pub unchangedText : ℕ → ℕ → Text
 unchangedText functions sentences =
     topText functions sentences sentences 0 0 ++ (countLine (ascii "undecided: ") 0 ++ (countLine (ascii "uncovered: ") 0 ++ ascii "dynamic-dispatch: yes (nothing cleaned)\ngraph: unknown\n"))
+
+-- The verdict if undecided and uncovered have so many lines, not both none.
+unfoldable pub cleanText : ℕ → ℕ → Text
+cleanText undecided uncovered = counted (ascii "graph: clean (undecided ") undecided ++ (counted (ascii ", uncovered ") uncovered ++ ascii ")\n")
+
+-- The verdict of a program that is cleaned, by its numbers.
+unfoldable pub graphText : ℕ → ℕ → ℕ → Text
+graphText functions undecided uncovered =
+    cond (eqb functions 0) (ascii "graph: empty\n")
+    (cond (eqb (undecided + uncovered) 0) (ascii "graph: perfect\n")
+    (cleanText undecided uncovered))

@@ -2,12 +2,10 @@
 use crate::emit::put_byte;
 use crate::emit::put_bytes;
 use crate::emit::put_decimal;
-ghost use mathlib.Core.Bool.{false};
 ghost use Prim.Native.Nat.{_+_, _<_, _≤_};
 ghost use lib.ListN.{length};
 ghost use Rattle.text.specs.Fill.{Emitted, limit};
-ghost use Rattle.meaning.specs.Report.{perfection, graphLine};
-ghost use Rattle.text.specs.Counts.{counted, countLine, topText, unchangedText};
+ghost use Rattle.text.specs.Counts.{counted, countLine, topText, unchangedText, graphText};
 
 // A number after its label.
 fn put_counted(out: &mut [u8], at: usize, label: &[u8], n: usize) -> usize
@@ -48,10 +46,19 @@ pub fn put_top(
 }
 
 // The verdict, of a program that is cleaned.
-pub fn put_graph(out: &mut [u8], at: usize, undecided: usize, uncovered: usize) -> usize
-    requires { ⌜ (undecided < 100000000000000000) × (uncovered < 100000000000000000) × (at + 80 ≤ limit) ⌝ }
-    ensures { λ r. ⌜ Emitted (now (out .entry)) at (graphLine (perfection false undecided uncovered)) r (now (out .exit)) ⌝ }
+pub fn put_graph(
+    out: &mut [u8],
+    at: usize,
+    functions: usize,
+    undecided: usize,
+    uncovered: usize,
+) -> usize
+    requires { ⌜ (functions < 100000000000000000) × (undecided < 100000000000000000) × (uncovered < 100000000000000000) × (at + 80 ≤ limit) ⌝ }
+    ensures { λ r. ⌜ Emitted (now (out .entry)) at (graphText functions undecided uncovered) r (now (out .exit)) ⌝ }
 {
+    if functions == 0 {
+        return put_bytes(out, at, b"graph: empty\n");
+    }
     if undecided + uncovered == 0 {
         return put_bytes(out, at, b"graph: perfect\n");
     }

@@ -4,11 +4,9 @@ use crate::counts::put_graph;
 use crate::counts::put_top;
 use crate::counts::put_unchanged;
 ghost use mathlib.Core.Path.{_≡_};
-ghost use mathlib.Core.Bool.{false};
 ghost use Prim.Native.Nat.{_+_, _<_, _≤_};
-ghost use Rattle.text.specs.Counts.{topText, unchangedText};
+ghost use Rattle.text.specs.Counts.{topText, unchangedText, graphText};
 ghost use Rattle.text.specs.Fill.{limit};
-ghost use Rattle.meaning.specs.Report.{perfection, graphLine};
 ghost use Rattle.text.specs.Written.{written};
 
 pub struct Writer<'a> {
@@ -37,12 +35,17 @@ pub fn with_top<'a>(
 }
 
 // The verdict, of a program that is cleaned.
-pub fn with_graph<'a>(w: Writer<'a>, undecided: usize, uncovered: usize) -> Writer<'a>
-    requires { ⌜ (undecided < 100000000000000000) × (uncovered < 100000000000000000) × (w .filled + 80 ≤ limit) ⌝ }
-    ensures { λ r. ⌜ r ≡ written (w .entry) (graphLine (perfection false undecided uncovered)) ⌝ }
+pub fn with_graph<'a>(
+    w: Writer<'a>,
+    functions: usize,
+    undecided: usize,
+    uncovered: usize,
+) -> Writer<'a>
+    requires { ⌜ (functions < 100000000000000000) × (undecided < 100000000000000000) × (uncovered < 100000000000000000) × (w .filled + 80 ≤ limit) ⌝ }
+    ensures { λ r. ⌜ r ≡ written (w .entry) (graphText functions undecided uncovered) ⌝ }
 {
     let at = w.filled;
-    let end = put_graph(&mut *w.text, at, undecided, uncovered);
+    let end = put_graph(&mut *w.text, at, functions, undecided, uncovered);
     Writer {
         text: w.text,
         filled: end,

@@ -1,7 +1,6 @@
 -- `report::format::measure_clean_report` meets its contract. Assumes nothing.
 use native.Mathlib.Omega.{arith}
 use mathlib.Core.Path.{_∙_}
-use mathlib.Core.Bool.{false}
 use mathlib.Core.List.{_++_}
 use Rattle.patterns.specs.Ascii.{ascii}
 use Rattle.patterns.specs.Names.{sameName}
@@ -9,8 +8,8 @@ use Rattle.meaning.specs.Lists.{firsts}
 use Rattle.told.specs.Numbered.{sitesOf}
 use Rattle.cleaning.specs.Indexed.{fellOf}
 use Rattle.told.specs.ToldReport.{uncharacterisedNames, toldReport}
-use Rattle.text.specs.Counts.{topText}
-use Rattle.meaning.specs.Report.{uncharacterisedLine, perfection, graphLine}
+use Rattle.text.specs.Counts.{topText, graphText}
+use Rattle.meaning.specs.Report.{uncharacterisedLine}
 use Rattle.text.proofs.Fill.{emitted-append, emitted-same, emitted-length}
 use Rattle.report.specs.Format.{listsText}
 use Rattle.report.proofs.Whole.{lists-measured, whole-told}
@@ -51,11 +50,16 @@ put-uncharacterised-requires c κs =
 
 put-graph-requires : tie.Need-put-graph-requires
 put-graph-requires c κs =
-    let few = c .before .before .before .before .before .before .before .before .before .before .before .before .before .before .before .before .before .before .before .before .before .before .before .before .before .pre .0 .few in
-    (few .undecided, few .uncovered, omega (arith, c .before .before .before .put-uncharacterised .ensures .1, c .before .before .before .before .before .before .before .before .put-count-line2 .ensures .1, c .before .before .before .before .before .before .before .before .before .before .before .before .before .before .put-count-line .ensures .1, c .before .before .before .before .before .before .before .before .before .before .before .before .before .before .before .before .before .before .before .before .put-top .ensures .1, few .removed-length, few .undecided-length, few .uncovered-length))
+    let p = c .before .before .before .before .before .before .before .before .before .before .before .before .before .before .before .before .before .before .before .before .before .before .before .before .before .pre .0 in
+    let few = p .few in
+    let d = p .reporting .removing .readable .indexed in
+    (omega (arith, d .fits, d .small), few .undecided, few .uncovered, omega (arith, c .before .before .before .put-uncharacterised .ensures .1, c .before .before .before .before .before .before .before .before .put-count-line2 .ensures .1, c .before .before .before .before .before .before .before .before .before .before .before .before .before .before .put-count-line .ensures .1, c .before .before .before .before .before .before .before .before .before .before .before .before .before .before .before .before .before .before .before .before .put-top .ensures .1, few .removed-length, few .undecided-length, few .uncovered-length))
 
 same-length : tie.Need-same-length
-same-length c = search needs
+same-length c =
+    let p = c .before .before .before .before .before .before .before .before .before .before .before .before .before .before .before .before .before .before .before .before .before .before .before .before .before .before .before .before .pre .0 in
+    emitted-length (c .before .before .put-graph .ensures)
+    ∙ (emitted-length (c .before .before .before .before .before .before .put-uncharacterised .ensures .0 (p .program) (p .reporting .removing .readable)) ∙ (emitted-length (c .before .before .before .before .before .before .before .before .before .before .before .put-count-line2 .ensures .0) ∙ (emitted-length (c .before .before .before .before .before .before .before .before .before .before .before .before .before .before .before .before .before .put-count-line .ensures .0) ∙ emitted-length (c .before .before .before .before .before .before .before .before .before .before .before .before .before .before .before .before .before .before .before .before .before .before .before .put-top .ensures .0))))
 
 returns : tie.Need-returns
 unfolding ascii
@@ -64,7 +68,7 @@ returns c = λ w x root.
     let r = toldReport w (fellOf (a .plan) (a .work .now)) (a .rounds) in
     let d = x .removing .readable in
     let names = uncharacterisedLine (firsts sameName (uncharacterisedNames (a .root) (sitesOf w) 0 (w .functions))) in
-    let graph = graphLine (perfection false (a .figures .undecided) (a .figures .uncovered)) in
+    let graph = graphText (a .plan .functions) (a .figures .undecided) (a .figures .uncovered) in
     let top = c .before .before .before .before .before .before .before .before .before .before .before .before .before .before .before .before .before .before .before .before .before .before .before .put-top .ensures .0 in
     emitted-same (whole-told w (fellOf (a .plan) (a .work .now)) (a .rounds) (a .plan) (a .root) (a .figures) (x .figures) (d .indexed .functions) (d .indexed .sentences) root)
     (emitted-append (topText (a .plan .functions) (a .plan .sentences) (a .figures .after) (a .rounds) (a .figures .removed)) (listsText r ++ (names ++ graph)) top

@@ -71,6 +71,10 @@ PROGRAMS = {
         define("G", rule([var("s.Y"), var("t.Z")]), rule(chars("B")), rule([var("e.X")])),
         define("H", rule(chars("A"))),
     ],
+    "untested": [
+        define("Go", rule([], [call(name, call("G")) for name in "FHf"])),
+        *(define(name, rule([])) for name in "FGH"),
+    ],
     "dynamic": [define("Go", rule([var("e.X")], [call("mU", var("e.X")), call("F", *chars("A"))])), TWO],
     "dynamicBlock": [
         define(

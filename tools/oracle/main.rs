@@ -84,7 +84,16 @@ fn departing_line(report: &CleanReport) -> Option<String> {
     if report.functions == 0 {
         return Some("graph: empty\n".to_owned());
     }
-    None
+    // "If the list is not empty and there is no dynamic dispatch"
+    let listed = report.uncharacterised.len();
+    if listed == 0 || report.dynamic_dispatch {
+        return None;
+    }
+    Some(format!(
+        "graph: clean (undecided {}, uncovered {}, uncharacterised {listed})\n",
+        report.undecided.len(),
+        report.uncovered.len(),
+    ))
 }
 
 fn answer_overlap(input: &mut impl Read, output: &mut impl Write) -> io::Result<()> {

@@ -37,7 +37,7 @@ pub fn deliver(
     let from = 2 * plan.functions + 2 * plan.sentences;
     let end = calls_of(plan);
     let after = count_ones(&work[from..end]);
-    let figures = count_lists(b, work, plan, rounds, after, &mut report[..0]);
+    let figures = count_lists(b, work, plan, root, rounds, after, &mut report[..0]);
     let needed = measure_clean_report(b, work, plan, root, rounds, figures, &mut report[..0]);
     if report.len() < needed {
         return refused(12, needed);

@@ -41,7 +41,7 @@ bare-report : reported bare ≡ ascii "functions: 1\nsentences: 0 -> 0\nrounds: 
 unfolding computing bare
 bare-report = refl
 
--- `F` is called with a call in its argument, `H` with what no sentence of it takes.
+-- `F` is called with a call in its argument, `H` with what no sentence of it takes. The last line departs from the Rust's, which leaves the uncharacterised out.
 lists : Program
 lists = record {
   declarations = [];
@@ -54,9 +54,26 @@ lists = record {
 }
 
 lists-report : reported lists
-    ≡ ascii "functions: 4\nsentences: 7 -> 7\nrounds: 1\nremoved: 0\nundecided: 1\n  H {'A'}\nuncovered: 1\n  H <- 'B'\nuncharacterised: F\ngraph: clean (undecided 1, uncovered 1)\n"
+    ≡ ascii "functions: 4\nsentences: 7 -> 7\nrounds: 1\nremoved: 0\nundecided: 1\n  H {'A'}\nuncovered: 1\n  H <- 'B'\nuncharacterised: F\ngraph: clean (undecided 1, uncovered 1, uncharacterised 1)\n"
 unfolding computing lists
 lists-report = refl
+
+-- Two functions that a call in an argument leaves untested, and nothing else to list: the Rust calls it perfect.
+untested : Program
+untested = record {
+  declarations = [];
+  functions =
+      define local "Go" (rule nil none (apply "F" (apply "G" nil nil) (apply "H" (apply "G" nil nil) (apply "f" (apply "G" nil nil) nil))) empty)
+      ∷ define local "F" (rule nil none nil empty)
+      ∷ define local "G" (rule nil none nil empty)
+      ∷ define local "H" (rule nil none nil empty)
+      ∷ [];
+}
+
+untested-report : reported untested
+    ≡ ascii "functions: 4\nsentences: 4 -> 4\nrounds: 1\nremoved: 0\nundecided: 0\nuncovered: 0\nuncharacterised: F, H\ngraph: clean (undecided 0, uncovered 0, uncharacterised 2)\n"
+unfolding computing untested
+untested-report = refl
 
 -- "Any `Mu` or `Up` call: same bytes out, rounds 0, verdict unknown."
 dynamic : Program

@@ -1,6 +1,6 @@
 -- The text of a report: the Rust's `format_clean_report`. "Lines give functions, own sentences before and after, rounds, each list's count and entries, the verdict."
 use Prim.Native.Nat.{_+_}
-use mathlib.Core.Bool.{Bool, true, false, cond}
+use mathlib.Core.Bool.{Bool, true, false, not, cond}
 use mathlib.Core.List.{List, [], _∷_, _++_, map, flatMap, flatten}
 use lib.Dec.{eqb}
 use lib.ListN.{length}
@@ -28,16 +28,19 @@ undecidedLine x = flatten (ascii "  " ∷ x .function ∷ ascii " {" ∷ x .patt
 unfoldable pub uncoveredLine : UncoveredRestriction → Text
 uncoveredLine x = flatten (ascii "  " ∷ x .function ∷ ascii " <- " ∷ x .input ∷ ascii "\n" ∷ [])
 
--- The last line, "the verdict": the Rust's `perfection`, but for document 02's clause.
+-- The last line, "the verdict": the Rust's `perfection`, but for document 02's two clauses.
 unfoldable pub graphLine : CleanReport → Text
 graphLine r =
     -- "Any `Mu` or `Up` call: same bytes out, rounds 0, verdict unknown."
     cond (r .dynamicDispatch) (ascii "graph: unknown\n")
     -- "an image with no functions": "It should end its report with `graph: empty`, declarations or not"
     (cond (eqb (r .functions) 0) (ascii "graph: empty\n")
-    -- the lines of the Rust, perfect if nothing is undecided or uncovered
+    -- "If the list is not empty and there is no dynamic dispatch": "with the three counts"
+    (cond (not (eqb (length (r .uncharacterised)) 0))
+    (flatten (ascii "graph: clean (undecided " ∷ decimal (length (r .undecided)) ∷ ascii ", uncovered " ∷ decimal (length (r .uncovered)) ∷ ascii ", uncharacterised " ∷ decimal (length (r .uncharacterised)) ∷ ascii ")\n" ∷ []))
+    -- "With an empty list the lines are unchanged": those of the Rust, perfect if nothing is undecided or uncovered
     (cond (eqb (length (r .undecided) + length (r .uncovered)) 0) (ascii "graph: perfect\n")
-    (flatten (ascii "graph: clean (undecided " ∷ decimal (length (r .undecided)) ∷ ascii ", uncovered " ∷ decimal (length (r .uncovered)) ∷ ascii ")\n" ∷ []))))
+    (flatten (ascii "graph: clean (undecided " ∷ decimal (length (r .undecided)) ∷ ascii ", uncovered " ∷ decimal (length (r .uncovered)) ∷ ascii ")\n" ∷ [])))))
 
 unfoldable pub uncharacterisedLine : List Name → Text
 uncharacterisedLine [] = []

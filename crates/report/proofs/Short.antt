@@ -3,7 +3,7 @@ use Prim.Native.Nat.{ℕ, zero, suc, _+_, _*_, _≤_, _<_}
 use native.Mathlib.Omega.{arith}
 use native.Mathlib.Nat.{mul-le-mul}
 use mathlib.Core.Path.{_≡_, refl, sym, _∙_}
-use mathlib.Core.Bool.{Bool, true, false, cond}
+use mathlib.Core.Bool.{Bool, true, false, not, cond}
 use mathlib.Core.List.{List, [], _∷_, _++_, flatten, flatMap}
 use borrow.Author.Tests.{leb-true, leb-false}
 use lib.Dec.{eqb, leb}
@@ -36,22 +36,26 @@ record Small (r : CleanReport) : Type 0 where
   pub removed : length (r .removed) < 100000000000000000
   pub undecided : length (r .undecided) < 100000000000000000
   pub uncovered : length (r .uncovered) < 100000000000000000
+  pub uncharacterised : length (r .uncharacterised) < 100000000000000000
 
 -- Whichever verdict it is, it is no longer than the longest.
-chosen-length : (t f n : Bool) (a b d e : Text) → length a ≤ 72 → length b ≤ 72 → length d ≤ 72 → length e ≤ 72 → length (cond t a (cond f b (cond n d e))) ≤ 72
-chosen-length true f n a b d e g h j k = g
-chosen-length false true n a b d e g h j k = h
-chosen-length false false true a b d e g h j k = j
-chosen-length false false false a b d e g h j k = k
+chosen-length : (t f w n : Bool) (a b c d e : Text) → length a ≤ 107 → length b ≤ 107 → length c ≤ 107 → length d ≤ 107 → length e ≤ 107 → length (cond t a (cond f b (cond (not w) c (cond n d e)))) ≤ 107
+chosen-length true f w n a b c d e g h i j k = g
+chosen-length false true w n a b c d e g h i j k = h
+chosen-length false false false n a b c d e g h i j k = i
+chosen-length false false true true a b c d e g h i j k = j
+chosen-length false false true false a b c d e g h i j k = k
 
-graph-length : (r : CleanReport) → Small r → length (graphLine r) ≤ 72
+graph-length : (r : CleanReport) → Small r → length (graphLine r) ≤ 107
 unfolding graphLine ascii
 graph-length r h =
     let u = length (r .undecided) in
     let v = length (r .uncovered) in
+    let w = length (r .uncharacterised) in
     let clean = ascii "graph: clean (undecided " ∷ decimal u ∷ ascii ", uncovered " ∷ decimal v ∷ ascii ")\n" ∷ [] in
-    chosen-length (r .dynamicDispatch) (eqb (r .functions) 0) (eqb (u + v) 0) (ascii "graph: unknown\n") (ascii "graph: empty\n") (ascii "graph: perfect\n") (flatten clean) (omega arith) (omega arith) (omega arith)
-    (omega (arith, flatten-length clean, decimal-length 16 u (h .undecided), decimal-length 16 v (h .uncovered)))
+    let untested = ascii "graph: clean (undecided " ∷ decimal u ∷ ascii ", uncovered " ∷ decimal v ∷ ascii ", uncharacterised " ∷ decimal w ∷ ascii ")\n" ∷ [] in
+    chosen-length (r .dynamicDispatch) (eqb (r .functions) 0) (eqb w 0) (eqb (u + v) 0) (ascii "graph: unknown\n") (ascii "graph: empty\n") (flatten untested) (ascii "graph: perfect\n") (flatten clean) (omega arith) (omega arith)
+    (omega (arith, flatten-length untested, decimal-length 16 u (h .undecided), decimal-length 16 v (h .uncovered), decimal-length 16 w (h .uncharacterised))) (omega arith) (omega (arith, flatten-length clean, decimal-length 16 u (h .undecided), decimal-length 16 v (h .uncovered)))
 
 dispatch-length : (t : Bool) → length (dispatchLine t) ≤ 40
 unfolding dispatchLine ascii
@@ -100,7 +104,7 @@ product-small a b h = by (leb a 2048) refl
 pub unchanged-short : (w : Program) → length (w .functions) < 100000000000000000 → ownSentenceCount (w .functions) < 100000000000000000 → length (formatCleanReport (unchangedReport w)) < 1099511627776
 unfolding unchangedReport flatMap uncharacterisedLine
 unchanged-short w f s =
-    omega (arith, report-length (unchangedReport w) (record { functions = f; before = s; after = s; rounds = omega arith; removed = omega arith; undecided = omega arith; uncovered = omega arith }))
+    omega (arith, report-length (unchangedReport w) (record { functions = f; before = s; after = s; rounds = omega arith; removed = omega arith; undecided = omega arith; uncovered = omega arith; uncharacterised = omega arith }))
 
 pub report-short : {b : List ℕ} {w : Program} {m : List ℕ} {p : Plan} → Readable b w m p → (fell : ℕ → ℕ) (n : ℕ) → n < 4096 → length (formatCleanReport (toldReport w fell n)) < 1099511627776
 unfolding toldReport
@@ -126,5 +130,6 @@ report-short {b} {w} {m} {p} d fell n h =
       removed = omega (arith, x .few, sentences, few);
       undecided = omega (arith, y .few, sentences, few);
       uncovered = omega (arith, z .few, fn);
+      uncharacterised = omega (arith, o .few, functions, few);
     } in
     omega (arith, report-length r small, lines-length removedLine (65555 + p .sites * 32771) (r .removed) x, lines-length undecidedLine 65542 (r .undecided) y, lines-length uncoveredLine 65543 (r .uncovered) z, uncharacterised-line (r .uncharacterised) o, fn, sn, functions, sentences, few)

@@ -29,7 +29,7 @@ use Rattle.text.specs.Fill.{Emitted}
 use Rattle.meaning.specs.Report.{join, uncharacterisedLine}
 use Rattle.text.proofs.Fill.{emitted-append, emitted-same}
 use Rattle.report.specs.Emitting.{SomeReadable}
-use Rattle.report.specs.Names.{isUncharacterised, isNewlyUncharacterised, lead, uncharacterisedText, lineEnd}
+use Rattle.report.specs.Names.{isUncharacterised, isNewlyUncharacterised, lead, uncharacterisedText, uncharacterisedCount, lineEnd}
 
 pub some-body : {b m : List ℕ} {p : Plan} → SomeReadable b m p → SomeBody m p
 some-body {b} s = record { body = b; program = s .program; indexed = s .readable .indexed }
@@ -137,6 +137,14 @@ pub text-none : (root : ℕ) (w : Program) (f : ℕ) (x : Function) (first : Boo
 unfolding uncharacterisedText
 text-none root w f x first e = sym (ap (λ (t : Bool). cond t (lead first ++ x .name) []) e)
 
+pub count-new : (root : ℕ) (w : Program) (f : ℕ) (x : Function) → isNewlyUncharacterised root w f x ≡ true → uncharacterisedCount root w f x ≡ 1
+unfolding uncharacterisedCount
+count-new root w f x e = ap (λ (t : Bool). cond t 1 0) e
+
+pub count-none : (root : ℕ) (w : Program) (f : ℕ) (x : Function) → isNewlyUncharacterised root w f x ≡ false → uncharacterisedCount root w f x ≡ 0
+unfolding uncharacterisedCount
+count-none root w f x e = ap (λ (t : Bool). cond t 1 0) e
+
 -- ---- the names so far
 
 module _ {A : Type 0} (same : A → A → Bool) where
@@ -229,3 +237,25 @@ line-done root w f l {s} {b} {d} {at} {place} {r} g h =
     emitted-same (names-end (newAfter sameName [] (namesTo root w f)) ∙ ap uncharacterisedLine (ap (λ (fs : List Function). newAfter sameName [] (uncharacterisedNames root (sitesOf w) 0 fs)) (take-all f (w .functions) l) ∙ sym (names-new (uncharacterisedNames root (sitesOf w) 0 (w .functions)))))
     (emitted-append (lineTo root w f) (lineEnd (isNil (newAfter sameName [] (namesTo root w f)))) g
     (subst (λ (t : Bool). Emitted b place (lineEnd t) r d) (first-place (newAfter sameName [] (namesTo root w f)) at place (g .after)) h))
+
+-- How many names the line has then.
+abbrev pub countTo : ℕ → Program → ℕ → ℕ
+countTo root w f = length (newAfter sameName [] (namesTo root w f))
+
+pub count-start : (root : ℕ) (w : Program) → 0 ≡ countTo root w 0
+unfolding uncharacterisedNames newAfter
+count-start root w = refl
+
+pub count-step : (root : ℕ) (w : Program) (f : ℕ) (x : Function) → getElem? (w .functions) f ≡ some x → countTo root w f + uncharacterisedCount root w f x ≡ countTo root w (f + 1)
+unfolding uncharacterisedCount isNewlyUncharacterised
+count-step root w f x e =
+    by (newAfter sameName [] (namesTo root w f)) (isUncharacterised root (sitesOf w) f x) (any (λ n. sameName n (x .name)) (namesTo root w f))
+    ∙ ap length (sym (ap (newAfter sameName []) (names-to-next root w f x e) ∙ new-next sameName (namesTo root w f) (x .name) (isUncharacterised root (sitesOf w) f x)))
+  where
+    by : (l : List Name) (o s : Bool) → length l + cond (o && not s) 1 0 ≡ length (l ++ cond o (cond s [] (x .name ∷ [])) [])
+    by l false s = omega (arith, length-append l [])
+    by l true true = omega (arith, length-append l [])
+    by l true false = omega (arith, length-append l (x .name ∷ []))
+
+pub count-done : (root : ℕ) (w : Program) (f : ℕ) → length (w .functions) ≤ f → countTo root w f ≡ length (firsts sameName (uncharacterisedNames root (sitesOf w) 0 (w .functions)))
+count-done root w f l = ap length (ap (λ (fs : List Function). newAfter sameName [] (uncharacterisedNames root (sitesOf w) 0 fs)) (take-all f (w .functions) l) ∙ sym (names-new (uncharacterisedNames root (sitesOf w) 0 (w .functions))))

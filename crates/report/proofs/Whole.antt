@@ -5,7 +5,7 @@ use mathlib.Core.Path.{_≡_, refl, sym, ap, ap₂, subst, _∙_}
 use mathlib.Core.Bool.{Bool}
 use mathlib.Core.List.{List, [], _∷_, _++_, map, flatten, flatMap, append-assoc}
 use lib.ListN.{length, length-append, length-map}
-use Rattle.program.specs.Syntax.{Program}
+use Rattle.program.specs.Syntax.{Name, Program}
 use Rattle.program.specs.Sentences.{ownSentences}
 use Rattle.patterns.specs.Names.{sameName}
 use Rattle.meaning.specs.Lists.{firsts}
@@ -84,15 +84,18 @@ module _ (w : Program) (fell : ℕ → ℕ) (n : ℕ) (below : (s : ℕ) → fel
   uncovered-is = ap (λ (k : ℕ → Bool). runsAfter sameUncovered [] (uncoveredTold k (sitesOf w) 0 (w .functions))) after-is
 
   pub figures-told : (g : Figures) → g .after ≡ toldReport w fell n .sentencesAfter → g .removed ≡ length (firsts sameFallen (fallenFrom w fell 1 n)) → g .undecided ≡ length (undecidedNow w fell n) → g .uncovered ≡ length (uncoveredNow w fell n)
-      → g .«removed_length» ≡ length (flatMap removedLine (removedNow w fell n)) → g .«undecided_length» ≡ length (flatMap undecidedLine (undecidedNow w fell n)) → g .«uncovered_length» ≡ length (flatMap uncoveredLine (uncoveredNow w fell n)) → FiguresOf (toldReport w fell n) g
-  figures-told g a b c d e h k = record {
+      → g .«removed_length» ≡ length (flatMap removedLine (removedNow w fell n)) → g .«undecided_length» ≡ length (flatMap undecidedLine (undecidedNow w fell n)) → g .«uncovered_length» ≡ length (flatMap uncoveredLine (uncoveredNow w fell n))
+      → g .uncharacterised ≡ length (toldReport w fell n .uncharacterised) → g .«uncharacterised_length» ≡ length (uncharacterisedLine (toldReport w fell n .uncharacterised)) → FiguresOf (toldReport w fell n) g
+  figures-told g a b c d e h k u v = record {
     after = a;
     removed = b ∙ (sym (length-map (firsts sameFallen (fallenFrom w fell 1 n)) (removedOf w fell)) ∙ ap length (removed-is w fell n));
     undecided = c ∙ ap length undecided-is;
     uncovered = d ∙ ap length uncovered-is;
+    uncharacterised = u;
     removed-length = e ∙ ap (λ (l : List RemovedSentence). length (flatMap removedLine l)) (removed-is w fell n);
     undecided-length = h ∙ ap (λ (l : List UndecidedSentence). length (flatMap undecidedLine l)) undecided-is;
     uncovered-length = k ∙ ap (λ (l : List UncoveredRestriction). length (flatMap uncoveredLine l)) uncovered-is;
+    uncharacterised-length = v;
   }
 
   pub lists-told : (g : Figures) → FiguresOf (toldReport w fell n) g
@@ -123,6 +126,15 @@ lists-measured {s} {t} {v} {p} {q} {e} r g f none second third =
     (emitted-append c (d ++ z) (unwritten t q (g .«undecided_length») c empty (f .undecided-length))
     (emitted-append d z third (unwritten v e (g .«uncovered_length») z (emitted-length third ∙ empty) (f .uncovered-length))))))
 
+-- And the line of names, if there is one.
+pub names-measured : (s : List ℕ) (p : ℕ) (r : CleanReport) (g : Figures) → FiguresOf r g → length s ≡ 0 → Emitted s p (uncharacterisedLine (r .uncharacterised)) (p + g .«uncharacterised_length») s
+names-measured s p r g f none = unwritten s p (g .«uncharacterised_length») (uncharacterisedLine (r .uncharacterised)) none (f .uncharacterised-length)
+
+-- The names as the code lists them are the report's.
+pub names-told : (w : Program) (fell : ℕ → ℕ) (n root : ℕ) → root ≡ rootPlace w → firsts sameName (uncharacterisedNames root (sitesOf w) 0 (w .functions)) ≡ toldReport w fell n .uncharacterised
+unfolding toldReport
+names-told w fell n root k = ap (λ (z : ℕ). firsts sameName (uncharacterisedNames z (sitesOf w) 0 (w .functions))) k
+
 -- The report in the four pieces in which it is emitted.
 pub report-whole : (r : CleanReport)
     → topText (r .functions) (r .sentencesBefore) (r .sentencesAfter) (r .rounds) (length (r .removed)) ++ (listsText r ++ lastLines r) ≡ formatCleanReport r
@@ -135,23 +147,26 @@ report-whole r =
     regroup : (a b c d e z : Text) → (a ++ (b ++ (c ++ (d ++ e)))) ++ z ≡ a ++ (b ++ (c ++ (d ++ (e ++ z))))
     regroup a b c d e z = simp append-assoc refl
 
-pub whole-told : (w : Program) (fell : ℕ → ℕ) (n : ℕ) (p : Plan) (root : ℕ) (g : Figures) → FiguresOf (toldReport w fell n) g → length (w .functions) ≡ p .functions → length (ownSentences (w .functions)) ≡ p .sentences → root ≡ rootPlace w
+pub whole-told : (w : Program) (fell : ℕ → ℕ) (n : ℕ) (p : Plan) (g : Figures) → FiguresOf (toldReport w fell n) g → length (w .functions) ≡ p .functions → length (ownSentences (w .functions)) ≡ p .sentences
     → topText (p .functions) (p .sentences) (g .after) n (g .removed)
-    ++ (listsText (toldReport w fell n) ++ (uncharacterisedLine (firsts sameName (uncharacterisedNames root (sitesOf w) 0 (w .functions))) ++ graphText (p .functions) (g .undecided) (g .uncovered))) ≡ formatCleanReport (toldReport w fell n)
+    ++ (listsText (toldReport w fell n) ++ (uncharacterisedLine (toldReport w fell n .uncharacterised) ++ graphText (p .functions) (g .undecided) (g .uncovered) (g .uncharacterised))) ≡ formatCleanReport (toldReport w fell n)
 unfolding toldReport lastLines dispatchLine
-whole-told w fell n p root g f e h k =
+whole-told w fell n p g f e h =
     let functions = sym e in
     let sentences = sym h ∙ own-counted (w .functions) in
     let r = toldReport w fell n in
     (λ i. topText (functions i) (sentences i) (f .after i) n (f .removed i)
-    ++ (listsText r ++ (uncharacterisedLine (firsts sameName (uncharacterisedNames (k i) (sitesOf w) 0 (w .functions))) ++ graphText (functions i) (f .undecided i) (f .uncovered i))))
+    ++ (listsText r ++ (uncharacterisedLine (r .uncharacterised) ++ graphText (functions i) (f .undecided i) (f .uncovered i) (f .uncharacterised i))))
     ∙ (ap (λ (t : Text). topText (r .functions) (r .sentencesBefore) (r .sentencesAfter) (r .rounds) (length (r .removed)) ++ (listsText r ++ (uncharacterisedLine (r .uncharacterised) ++ t))) (graph-told r refl)
     ∙ report-whole r)
 
 -- The same, with the uncharacterised functions beside the lists, as it is written.
 pub whole-listed : (w : Program) (fell : ℕ → ℕ) (n : ℕ) (p : Plan) (root : ℕ) (g : Figures) → FiguresOf (toldReport w fell n) g → length (w .functions) ≡ p .functions → length (ownSentences (w .functions)) ≡ p .sentences → root ≡ rootPlace w
-    → topText (p .functions) (p .sentences) (g .after) n (g .removed) ++ (listedText w root fell n ++ graphText (p .functions) (g .undecided) (g .uncovered)) ≡ formatCleanReport (toldReport w fell n)
+    → topText (p .functions) (p .sentences) (g .after) n (g .removed) ++ (listedText w root fell n ++ graphText (p .functions) (g .undecided) (g .uncovered) (g .uncharacterised)) ≡ formatCleanReport (toldReport w fell n)
 unfolding listedText
 whole-listed w fell n p root g f e h k =
-    ap (λ (t : Text). topText (p .functions) (p .sentences) (g .after) n (g .removed) ++ t) (append-assoc (listsText (toldReport w fell n)) (uncharacterisedLine (firsts sameName (uncharacterisedNames root (sitesOf w) 0 (w .functions)))) (graphText (p .functions) (g .undecided) (g .uncovered)))
-    ∙ whole-told w fell n p root g f e h k
+    let r = toldReport w fell n in
+    let graph = graphText (p .functions) (g .undecided) (g .uncovered) (g .uncharacterised) in
+    ap (λ (t : Text). topText (p .functions) (p .sentences) (g .after) n (g .removed) ++ t)
+    (append-assoc (listsText r) (uncharacterisedLine (firsts sameName (uncharacterisedNames root (sitesOf w) 0 (w .functions)))) graph ∙ ap (λ (l : List Name). listsText r ++ (uncharacterisedLine l ++ graph)) (names-told w fell n root k))
+    ∙ whole-told w fell n p g f e h

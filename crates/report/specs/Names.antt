@@ -30,6 +30,10 @@ lead false = ascii ", "
 unfoldable pub uncharacterisedText : ℕ → Program → ℕ → Function → Bool → Text
 uncharacterisedText root w f x first = cond (isNewlyUncharacterised root w f x) (lead first ++ x .name) []
 
+-- How many names that is.
+unfoldable pub uncharacterisedCount : ℕ → Program → ℕ → Function → ℕ
+uncharacterisedCount root w f x = cond (isNewlyUncharacterised root w f x) 1 0
+
 -- The end of the line, if it has a name.
 unfoldable pub lineEnd : Bool → Text
 lineEnd true = []

@@ -27,15 +27,17 @@ ghost use Rattle.report.specs.Removed.{Removing, SomeRemoving};
 ghost use Rattle.report.specs.Format.{listsText, listedText};
 ghost use Rattle.report.specs.Figures.{FiguresOf, Few, Reporting, SomeReporting};
 
-// The numbers of a report: sentences left, the lines of its lists, and the bytes of those.
+// The numbers of a report: sentences left, the lines of its lists, the names that are uncharacterised, and the bytes of those.
 pub struct Figures {
     pub after: usize,
     pub removed: usize,
     pub undecided: usize,
     pub uncovered: usize,
+    pub uncharacterised: usize,
     pub removed_length: usize,
     pub undecided_length: usize,
     pub uncovered_length: usize,
+    pub uncharacterised_length: usize,
 }
 
 // The report of a program with a call of Mu or Up, which is left alone.
@@ -56,15 +58,17 @@ pub fn count_lists(
     b: &[u8],
     work: &mut [u32],
     plan: Plan,
+    root: usize,
     rounds: usize,
     after: usize,
     none: &mut [u8],
 ) -> Figures
     requires { ⌜ SomeRemoving (now b) (now work) plan rounds × (rounds < 4096) × (after < 8192) × Remembering (now b) plan (now work) ⌝ }
-    ensures counted { λ r. ⌜ ((w : Program) → Removing (now (b .entry)) w (now (work .entry)) plan rounds → after ≡ toldReport w (fellOf plan (now (work .entry))) rounds .sentencesAfter → FiguresOf (toldReport w (fellOf plan (now (work .entry))) rounds) r × (length (now (none .exit)) ≡ length (now (none .entry)))) ⌝ }
+    ensures counted { λ r. ⌜ ((w : Program) → Removing (now (b .entry)) w (now (work .entry)) plan rounds → after ≡ toldReport w (fellOf plan (now (work .entry))) rounds .sentencesAfter → root ≡ rootPlace w → FiguresOf (toldReport w (fellOf plan (now (work .entry))) rounds) r × (length (now (none .exit)) ≡ length (now (none .entry)))) ⌝ }
     ensures few { λ r. ⌜ Few r ⌝ }
     ensures keeps { λ _. ⌜ Used (now (b .entry)) plan (now (work .entry)) (now (work .exit)) ⌝ }
 {
+    let names = put_uncharacterised(b, work, plan, root, none, 0);
     let removed = put_removed(b, work, plan, rounds, none, 0);
     let undecided = put_undecided(b, work, plan, none, 0);
     let uncovered = put_uncovered(b, work, plan, none, 0);
@@ -73,9 +77,11 @@ pub fn count_lists(
         removed: removed.count,
         undecided: undecided.count,
         uncovered: uncovered.count,
+        uncharacterised: names.count,
         removed_length: removed.at,
         undecided_length: undecided.at,
         uncovered_length: uncovered.at,
+        uncharacterised_length: names.at,
     }
 }
 
@@ -117,7 +123,8 @@ fn put_listed(
     ensures { λ r. ⌜ ((p : Program) → Reporting (now (b .entry)) p (now (work .entry)) plan rounds figures → Emitted (now (out .entry)) at (listedText p root (fellOf plan (now (work .entry))) rounds) r (now (out .exit))) × (r ≤ 1000000001000000000) × Used (now (b .entry)) plan (now (work .entry)) (now (work .exit)) ⌝ }
 {
     let end = put_lists(b, work, plan, rounds, figures, out, at);
-    put_uncharacterised(b, work, plan, root, out, end)
+    let names = put_uncharacterised(b, work, plan, root, out, end);
+    names.at
 }
 
 // The lists, through the writing end.
@@ -169,11 +176,17 @@ pub fn format_clean_report(
         figures.removed,
     );
     let lists = with_lists(b, work, plan, root, rounds, figures, top);
-    let all = with_graph(lists, plan.functions, figures.undecided, figures.uncovered);
+    let all = with_graph(
+        lists,
+        plan.functions,
+        figures.undecided,
+        figures.uncovered,
+        figures.uncharacterised,
+    );
     all.filled
 }
 
-// Where the same report ends, emitted into no text: the lists' lengths stand for the lists.
+// Where the same report ends, emitted into no text: the lengths of the lists and of the line of names stand for them.
 pub fn measure_clean_report(
     b: &[u8],
     work: &[u32],
@@ -200,12 +213,13 @@ pub fn measure_clean_report(
     let uncovered = second + figures.undecided_length;
     let third = put_count_line(none, uncovered, b"uncovered: ", figures.uncovered);
     let open = third + figures.uncovered_length;
-    let fourth = put_uncharacterised(b, work, plan, root, none, open);
+    let fourth = open + figures.uncharacterised_length;
     put_graph(
         none,
         fourth,
         plan.functions,
         figures.undecided,
         figures.uncovered,
+        figures.uncharacterised,
     )
 }

@@ -11,7 +11,7 @@ ghost use mathlib.Core.List.{List};
 ghost use mathlib.Core.Option.{some};
 ghost use Prim.Native.Nat.{ℕ, _+_, _*_, _<_, _≤_};
 ghost use lib.Dec.{eqb};
-ghost use lib.ListN.{getElem?, take};
+ghost use lib.ListN.{length, getElem?, take};
 ghost use Rattle.program.specs.Syntax.{Function, Program};
 ghost use Rattle.patterns.specs.Names.{sameName};
 ghost use Rattle.meaning.specs.Lists.{any, firsts};
@@ -22,7 +22,13 @@ ghost use Rattle.told.specs.ToldReport.{uncharacterisedNames};
 ghost use Rattle.text.specs.Fill.{Emitted, limit};
 ghost use Rattle.meaning.specs.Report.{uncharacterisedLine};
 ghost use Rattle.report.specs.Emitting.{Readable, SomeReadable};
-ghost use Rattle.report.specs.Names.{isUncharacterised, isNewlyUncharacterised, lead, uncharacterisedText, lineEnd};
+ghost use Rattle.report.specs.Names.{isUncharacterised, isNewlyUncharacterised, lead, uncharacterisedText, uncharacterisedCount, lineEnd};
+
+// The place after the line so far, and how many names it has.
+pub struct Named {
+    pub at: usize,
+    pub count: usize,
+}
 
 // Whether a site uncharacterises the f-th function.
 fn has_call_in_argument(work: &[u32], plan: Plan, f: usize) -> bool
@@ -100,17 +106,22 @@ fn put_if_uncharacterised(
     f: usize,
     out: &mut [u8],
     from: usize,
-    at: usize,
-) -> usize
-    requires { ⌜ SomeReadable (now b) (now work) plan × (f < plan .functions) × (at + 32785 ≤ limit) ⌝ }
-    ensures written { λ r. ⌜ ((w : Program) (x : Function) → Readable (now (b .entry)) w (now (work .entry)) plan → getElem? (w .functions) f ≡ some x → Emitted (now (out .entry)) at (uncharacterisedText root w f x (eqb at from)) r (now (out .exit))) ⌝ }
-    ensures short { λ r. ⌜ r ≤ at + 32785 ⌝ }
+    line: Named,
+) -> Named
+    requires { ⌜ SomeReadable (now b) (now work) plan × (f < plan .functions) × (line .at + 32785 ≤ limit) × (line .count ≤ f) ⌝ }
+    ensures written { λ r. ⌜ ((w : Program) (x : Function) → Readable (now (b .entry)) w (now (work .entry)) plan → getElem? (w .functions) f ≡ some x → Emitted (now (out .entry)) (line .at) (uncharacterisedText root w f x (eqb (line .at) from)) (r .at) (now (out .exit))) ⌝ }
+    ensures counted { λ r. ⌜ ((w : Program) (x : Function) → Readable (now (b .entry)) w (now (work .entry)) plan → getElem? (w .functions) f ≡ some x → r .count ≡ line .count + uncharacterisedCount root w f x) ⌝ }
+    ensures short { λ r. ⌜ (r .at ≤ line .at + 32785) × (r .count ≤ line .count + 1) ⌝ }
 {
     if is_newly_uncharacterised(b, work, plan, root, f) {
-        let name = put_lead(out, at, at == from);
-        return put_name(b, work, plan, f, out, name);
+        let name = put_lead(out, line.at, line.at == from);
+        let end = put_name(b, work, plan, f, out, name);
+        return Named {
+            at: end,
+            count: line.count + 1,
+        };
     }
-    at
+    line
 }
 
 // The end of the line that began at `from`, if there is a line.
@@ -132,16 +143,21 @@ pub fn put_uncharacterised(
     root: usize,
     out: &mut [u8],
     at: usize,
-) -> usize
+) -> Named
     requires { ⌜ SomeReadable (now b) (now work) plan × (at + 8192 * 32800 ≤ limit) ⌝ }
-    ensures written { λ r. ⌜ ((w : Program) → Readable (now (b .entry)) w (now (work .entry)) plan → Emitted (now (out .entry)) at (uncharacterisedLine (firsts sameName (uncharacterisedNames root (sitesOf w) 0 (w .functions)))) r (now (out .exit))) ⌝ }
-    ensures short { λ r. ⌜ r ≤ at + 8192 * 32800 ⌝ }
+    ensures written { λ r. ⌜ ((w : Program) → Readable (now (b .entry)) w (now (work .entry)) plan → Emitted (now (out .entry)) at (uncharacterisedLine (firsts sameName (uncharacterisedNames root (sitesOf w) 0 (w .functions)))) (r .at) (now (out .exit))) ⌝ }
+    ensures counted { λ r. ⌜ ((w : Program) → Readable (now (b .entry)) w (now (work .entry)) plan → r .count ≡ length (firsts sameName (uncharacterisedNames root (sitesOf w) 0 (w .functions)))) ⌝ }
+    ensures short { λ r. ⌜ (r .at ≤ at + 8192 * 32800) × (r .count ≤ 8192) ⌝ }
 {
-    let mut place = at;
+    let mut line = Named { at: at, count: 0 };
     let mut f = 0;
     while f < plan.functions {
-        place = put_if_uncharacterised(b, work, plan, root, f, out, at, place);
+        line = put_if_uncharacterised(b, work, plan, root, f, out, at, line);
         f += 1;
     }
-    put_line_end(out, at, place)
+    let end = put_line_end(out, at, line.at);
+    Named {
+        at: end,
+        count: line.count,
+    }
 }

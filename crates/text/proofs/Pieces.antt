@@ -1,7 +1,8 @@
 -- The report's last line by its numbers, and the report in the pieces in which it is emitted.
-use Prim.Native.Nat.{ℕ, _+_}
+use Prim.Native.Nat.{ℕ, _+_, _<_}
+use native.Mathlib.Omega.{arith}
 use mathlib.Core.Path.{_≡_, refl, sym, ap, ap₂, _∙_}
-use mathlib.Core.Bool.{Bool, false, cond}
+use mathlib.Core.Bool.{Bool, false, not, cond}
 use mathlib.Core.List.{[], _∷_, _++_, append-assoc, append-nil, flatten, flatMap}
 use lib.Dec.{eqb}
 use lib.ListN.{length}
@@ -14,36 +15,48 @@ use Rattle.meaning.specs.CleanReport.{CleanReport}
 use Rattle.told.specs.ToldReport.{unchangedReport}
 use Rattle.meaning.specs.Decimal.{decimal}
 use Rattle.meaning.specs.Report.{graphLine, removedLine, undecidedLine, uncoveredLine, uncharacterisedLine, dispatchLine, lastLines, formatCleanReport}
-use Rattle.text.specs.Counts.{counted, countLine, topText, unchangedText, cleanText, graphText}
+use Rattle.text.specs.Counts.{counted, countLine, topText, unchangedText, cleanText, untestedText, graphText}
 
 -- ---- the verdict by its numbers
 
-pub graph-empty : (f u v : ℕ) → f ≡ 0 → ascii "graph: empty\n" ≡ graphText f u v
+pub graph-empty : (f u v w : ℕ) → f ≡ 0 → ascii "graph: empty\n" ≡ graphText f u v w
 unfolding graphText
-graph-empty f u v e = sym (ap (λ (t : Bool). cond t (ascii "graph: empty\n") (cond (eqb (u + v) 0) (ascii "graph: perfect\n") (cleanText u v))) (eq-eqb f 0 e))
+graph-empty f u v w e = sym (ap (λ (t : Bool). cond t (ascii "graph: empty\n") (cond (not (eqb w 0)) (untestedText u v w) (cond (eqb (u + v) 0) (ascii "graph: perfect\n") (cleanText u v)))) (eq-eqb f 0 e))
 
 -- Of a program with functions.
-graph-some : (f u v : ℕ) → (f ≡ 0 → ⊥) → cond (eqb (u + v) 0) (ascii "graph: perfect\n") (cleanText u v) ≡ graphText f u v
+graph-some : (f u v w : ℕ) → (f ≡ 0 → ⊥) → cond (not (eqb w 0)) (untestedText u v w) (cond (eqb (u + v) 0) (ascii "graph: perfect\n") (cleanText u v)) ≡ graphText f u v w
 unfolding graphText
-graph-some f u v d = sym (ap (λ (t : Bool). cond t (ascii "graph: empty\n") (cond (eqb (u + v) 0) (ascii "graph: perfect\n") (cleanText u v))) (ne-eqb f 0 d))
+graph-some f u v w d = sym (ap (λ (t : Bool). cond t (ascii "graph: empty\n") (cond (not (eqb w 0)) (untestedText u v w) (cond (eqb (u + v) 0) (ascii "graph: perfect\n") (cleanText u v)))) (ne-eqb f 0 d))
 
-pub graph-perfect : (f u v : ℕ) → (f ≡ 0 → ⊥) → u + v ≡ 0 → ascii "graph: perfect\n" ≡ graphText f u v
-graph-perfect f u v d n = sym (ap (λ (t : Bool). cond t (ascii "graph: perfect\n") (cleanText u v)) (eq-eqb (u + v) 0 n)) ∙ graph-some f u v d
+pub graph-untested : (f u v w : ℕ) → (f ≡ 0 → ⊥) → 0 < w → untestedText u v w ≡ graphText f u v w
+graph-untested f u v w d l = sym (ap (λ (t : Bool). cond (not t) (untestedText u v w) (cond (eqb (u + v) 0) (ascii "graph: perfect\n") (cleanText u v))) (ne-eqb w 0 (λ e. absurd (omega (arith, l, e))))) ∙ graph-some f u v w d
 
-pub graph-clean : (f u v : ℕ) → (f ≡ 0 → ⊥) → (u + v ≡ 0 → ⊥) → cleanText u v ≡ graphText f u v
-graph-clean f u v d n = sym (ap (λ (t : Bool). cond t (ascii "graph: perfect\n") (cleanText u v)) (ne-eqb (u + v) 0 n)) ∙ graph-some f u v d
+-- And with all of them characterised.
+graph-tested : (f u v w : ℕ) → (f ≡ 0 → ⊥) → w ≡ 0 → cond (eqb (u + v) 0) (ascii "graph: perfect\n") (cleanText u v) ≡ graphText f u v w
+graph-tested f u v w d e = sym (ap (λ (t : Bool). cond (not t) (untestedText u v w) (cond (eqb (u + v) 0) (ascii "graph: perfect\n") (cleanText u v))) (eq-eqb w 0 e)) ∙ graph-some f u v w d
+
+pub graph-perfect : (f u v w : ℕ) → (f ≡ 0 → ⊥) → w ≡ 0 → u + v ≡ 0 → ascii "graph: perfect\n" ≡ graphText f u v w
+graph-perfect f u v w d e n = sym (ap (λ (t : Bool). cond t (ascii "graph: perfect\n") (cleanText u v)) (eq-eqb (u + v) 0 n)) ∙ graph-tested f u v w d e
+
+pub graph-clean : (f u v w : ℕ) → (f ≡ 0 → ⊥) → w ≡ 0 → (u + v ≡ 0 → ⊥) → cleanText u v ≡ graphText f u v w
+graph-clean f u v w d e n = sym (ap (λ (t : Bool). cond t (ascii "graph: perfect\n") (cleanText u v)) (ne-eqb (u + v) 0 n)) ∙ graph-tested f u v w d e
 
 clean-text : (u v : ℕ) → cleanText u v ≡ flatten (ascii "graph: clean (undecided " ∷ decimal u ∷ ascii ", uncovered " ∷ decimal v ∷ ascii ")\n" ∷ [])
 unfolding cleanText flatten counted
 clean-text u v = simp (append-assoc, append-nil) refl
 
+untested-text : (u v w : ℕ) → untestedText u v w ≡ flatten (ascii "graph: clean (undecided " ∷ decimal u ∷ ascii ", uncovered " ∷ decimal v ∷ ascii ", uncharacterised " ∷ decimal w ∷ ascii ")\n" ∷ [])
+unfolding untestedText flatten counted
+untested-text u v w = simp (append-assoc, append-nil) refl
+
 -- It is the report's last line, if there is no dynamic dispatch.
-pub graph-told : (r : CleanReport) → r .dynamicDispatch ≡ false → graphText (r .functions) (length (r .undecided)) (length (r .uncovered)) ≡ graphLine r
+pub graph-told : (r : CleanReport) → r .dynamicDispatch ≡ false → graphText (r .functions) (length (r .undecided)) (length (r .uncovered)) (length (r .uncharacterised)) ≡ graphLine r
 unfolding graphText graphLine
 graph-told r e =
     let u = length (r .undecided) in
     let v = length (r .uncovered) in
-    (λ i. cond (eqb (r .functions) 0) (ascii "graph: empty\n") (cond (eqb (u + v) 0) (ascii "graph: perfect\n") (clean-text u v i)))
+    let w = length (r .uncharacterised) in
+    (λ i. cond (eqb (r .functions) 0) (ascii "graph: empty\n") (cond (not (eqb w 0)) (untested-text u v w i) (cond (eqb (u + v) 0) (ascii "graph: perfect\n") (clean-text u v i))))
     ∙ by (r .dynamicDispatch) (ascii "graph: unknown\n") _ e
   where
     by : (t : Bool) (a b : Text) → t ≡ false → b ≡ cond t a b

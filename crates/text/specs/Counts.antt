@@ -1,6 +1,6 @@
 -- The report's lines with numbers, in the pieces in which they are emitted.
 use Prim.Native.Nat.{ℕ, _+_}
-use mathlib.Core.Bool.{cond}
+use mathlib.Core.Bool.{not, cond}
 use mathlib.Core.List.{_++_}
 use lib.Dec.{eqb}
 use Rattle.patterns.specs.Ascii.{ascii}
@@ -30,9 +30,14 @@ unchangedText functions sentences =
 unfoldable pub cleanText : ℕ → ℕ → Text
 cleanText undecided uncovered = counted (ascii "graph: clean (undecided ") undecided ++ (counted (ascii ", uncovered ") uncovered ++ ascii ")\n")
 
+-- The same if so many functions are uncharacterised.
+unfoldable pub untestedText : ℕ → ℕ → ℕ → Text
+untestedText undecided uncovered uncharacterised = counted (ascii "graph: clean (undecided ") undecided ++ (counted (ascii ", uncovered ") uncovered ++ (counted (ascii ", uncharacterised ") uncharacterised ++ ascii ")\n"))
+
 -- The verdict of a program that is cleaned, by its numbers.
-unfoldable pub graphText : ℕ → ℕ → ℕ → Text
-graphText functions undecided uncovered =
+unfoldable pub graphText : ℕ → ℕ → ℕ → ℕ → Text
+graphText functions undecided uncovered uncharacterised =
     cond (eqb functions 0) (ascii "graph: empty\n")
+    (cond (not (eqb uncharacterised 0)) (untestedText undecided uncovered uncharacterised)
     (cond (eqb (undecided + uncovered) 0) (ascii "graph: perfect\n")
-    (cleanText undecided uncovered))
+    (cleanText undecided uncovered)))

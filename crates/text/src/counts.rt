@@ -5,7 +5,7 @@ use crate::emit::put_decimal;
 ghost use Prim.Native.Nat.{_+_, _<_, _≤_};
 ghost use lib.ListN.{length};
 ghost use Rattle.text.specs.Fill.{Emitted, limit};
-ghost use Rattle.text.specs.Counts.{counted, countLine, topText, unchangedText, graphText};
+ghost use Rattle.text.specs.Counts.{counted, countLine, topText, unchangedText, untestedText, graphText};
 
 // A number after its label.
 fn put_counted(out: &mut [u8], at: usize, label: &[u8], n: usize) -> usize
@@ -45,6 +45,23 @@ pub fn put_top(
     put_count_line(out, fourth, b"\nremoved: ", removed)
 }
 
+// The verdict, of a program that is cleaned and has uncharacterised functions.
+fn put_untested(
+    out: &mut [u8],
+    at: usize,
+    undecided: usize,
+    uncovered: usize,
+    uncharacterised: usize,
+) -> usize
+    requires { ⌜ (undecided < 100000000000000000) × (uncovered < 100000000000000000) × (uncharacterised < 100000000000000000) × (at + 120 ≤ limit) ⌝ }
+    ensures { λ r. ⌜ Emitted (now (out .entry)) at (untestedText undecided uncovered uncharacterised) r (now (out .exit)) ⌝ }
+{
+    let first = put_counted(out, at, b"graph: clean (undecided ", undecided);
+    let second = put_counted(out, first, b", uncovered ", uncovered);
+    let third = put_counted(out, second, b", uncharacterised ", uncharacterised);
+    put_bytes(out, third, b")\n")
+}
+
 // The verdict, of a program that is cleaned.
 pub fn put_graph(
     out: &mut [u8],
@@ -52,12 +69,16 @@ pub fn put_graph(
     functions: usize,
     undecided: usize,
     uncovered: usize,
+    uncharacterised: usize,
 ) -> usize
-    requires { ⌜ (functions < 100000000000000000) × (undecided < 100000000000000000) × (uncovered < 100000000000000000) × (at + 80 ≤ limit) ⌝ }
-    ensures { λ r. ⌜ Emitted (now (out .entry)) at (graphText functions undecided uncovered) r (now (out .exit)) ⌝ }
+    requires { ⌜ (functions < 100000000000000000) × (undecided < 100000000000000000) × (uncovered < 100000000000000000) × (uncharacterised < 100000000000000000) × (at + 120 ≤ limit) ⌝ }
+    ensures { λ r. ⌜ Emitted (now (out .entry)) at (graphText functions undecided uncovered uncharacterised) r (now (out .exit)) ⌝ }
 {
     if functions == 0 {
         return put_bytes(out, at, b"graph: empty\n");
+    }
+    if 0 < uncharacterised {
+        return put_untested(out, at, undecided, uncovered, uncharacterised);
     }
     if undecided + uncovered == 0 {
         return put_bytes(out, at, b"graph: perfect\n");

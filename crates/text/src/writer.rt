@@ -40,12 +40,20 @@ pub fn with_graph<'a>(
     functions: usize,
     undecided: usize,
     uncovered: usize,
+    uncharacterised: usize,
 ) -> Writer<'a>
-    requires { ⌜ (functions < 100000000000000000) × (undecided < 100000000000000000) × (uncovered < 100000000000000000) × (w .filled + 80 ≤ limit) ⌝ }
-    ensures { λ r. ⌜ r ≡ written (w .entry) (graphText functions undecided uncovered) ⌝ }
+    requires { ⌜ (functions < 100000000000000000) × (undecided < 100000000000000000) × (uncovered < 100000000000000000) × (uncharacterised < 100000000000000000) × (w .filled + 120 ≤ limit) ⌝ }
+    ensures { λ r. ⌜ r ≡ written (w .entry) (graphText functions undecided uncovered uncharacterised) ⌝ }
 {
     let at = w.filled;
-    let end = put_graph(&mut *w.text, at, functions, undecided, uncovered);
+    let end = put_graph(
+        &mut *w.text,
+        at,
+        functions,
+        undecided,
+        uncovered,
+        uncharacterised,
+    );
     Writer {
         text: w.text,
         filled: end,

@@ -76,7 +76,7 @@ measure-clean-report-requires c κs =
     let q = marks-are ((c .before .before .before .before .before .before .before .before .before .before .before .before .before .before .before .before .before .before .before .before) .args .work .now) ((c .before .before .before .before .before .before .before .before .before .before .before .before .before .before .before .before .before .before .before .before) .args .plan) ((c .before .before .before .before .before .before .before .before .before .before .before .before) .calls-of .ensures) in
     let e = (c .before .before .before .before .before .before .before .before .before) .count-ones .ensures (x .accepted .program .functions) (none-from (x .accepted) ((c .before .before .before .before .before .before .before .before .before .before .before .before .before .before .before .before .before .before .before .before) .args .plan) d q) ∙ after-told (x .accepted) ((c .before .before .before .before .before .before .before .before .before .before .before .before .before .before .before .before .before .before .before .before) .args .plan) d q in
     let u = (c .before .before .before .before .before .before) .count-lists .ensures .1 .1 in
-    (record { program = x .accepted .program; reporting = used-reporting u (record { removing = d .removing; figures = (c .before .before .before .before .before .before) .count-lists .ensures .0 (x .accepted .program) (d .removing) e .0 }); few = (c .before .before .before .before .before .before) .count-lists .ensures .1 .0 }, x .few, refl)
+    (record { program = x .accepted .program; reporting = used-reporting u (record { removing = d .removing; figures = (c .before .before .before .before .before .before) .count-lists .ensures .0 (x .accepted .program) (d .removing) e (d .root-is) .0 }); few = (c .before .before .before .before .before .before) .count-lists .ensures .1 .0 }, x .few, refl)
 
 refused-requires : tie.Need-refused-requires
 refused-requires c κs = search needs
@@ -94,11 +94,11 @@ returns c = (
       let few = (c .before .before .before .before .before .before .before .before .before .before .before .before .before .before .before .before .before .before .before .before .before .before .before .before .before) .pre .0 .few in
       let q = marks-are (g .work .now) (g .plan) ((c .before .before .before .before .before .before .before .before .before .before .before .before .before .before .before .before .before) .calls-of .ensures) in
       let e = (c .before .before .before .before .before .before .before .before .before .before .before .before .before .before) .count-ones .ensures (a .program .functions) (none-from a (g .plan) d q) ∙ after-told a (g .plan) d q in
-      let f = (c .before .before .before .before .before .before .before .before .before .before .before) .count-lists .ensures .0 (a .program) (d .removing) e in
+      let f = (c .before .before .before .before .before .before .before .before .before .before .before) .count-lists .ensures .0 (a .program) (d .removing) e (d .root-is) in
       let u = (c .before .before .before .before .before .before .before .before .before .before .before) .count-lists .ensures .1 .1 in
       let t = emitted-used u (a .program) (g .rounds) ((c .before .before .before .before) .measure-clean-report .ensures (a .program) (used-reporting u (record { removing = d .removing; figures = f .0 })) (d .root-is)) in
-      let s = still ((c .before .before .before .before .before .before .before .before .before .before .before) .count-lists .last .1 .1 .1 .1 .1 .0) ((c .before .before .before .before) .measure-clean-report .last .1 .1 .1 .1 .1 .1 .0) (g .report .now) _ _ (f .1) t in
-      subst (λ (x : CleanAnswer). Wrote (a .program) (g .output .now) (g .report .now) x (g .output .now) ((c .before .before .before .before) .measure-clean-report .last .1 .1 .1 .1 .1 .1 .0 ++ ((c .before .before .before .before .before .before .before .before .before .before .before) .count-lists .last .1 .1 .1 .1 .1 .0 ++ g .report .now))) (sym (c .refused .ensures))
+      let s = still ((c .before .before .before .before .before .before .before .before .before .before .before) .count-lists .last .1 .1 .1 .1 .1 .1 .0) ((c .before .before .before .before) .measure-clean-report .last .1 .1 .1 .1 .1 .1 .0) (g .report .now) _ _ (f .1) t in
+      subst (λ (x : CleanAnswer). Wrote (a .program) (g .output .now) (g .report .now) x (g .output .now) ((c .before .before .before .before) .measure-clean-report .last .1 .1 .1 .1 .1 .1 .0 ++ ((c .before .before .before .before .before .before .before .before .before .before .before) .count-lists .last .1 .1 .1 .1 .1 .1 .0 ++ g .report .now))) (sym (c .refused .ensures))
       (wrote-nothing (a .program) _ _ (image-told a (g .plan) d q) (text-told a (g .plan) d q) (report-short (d .removing .readable) _ (g .rounds) few) (g .output .now) (g .report .now) ((c .before .before .before .before) .measure-clean-report .result) (whole-length (t .after)) (omega (arith, (c .before) .if1 .taken, ap length s)) _ s),
   (c .before .before .before .before .before .before .before .before .before .before .before) .count-lists .ensures .1 .1 .length,
 )
@@ -110,7 +110,7 @@ format-clean-report-requires c κs =
     let q = marks-are ((c .before .before .before .before .before .before .before .before .before .before .before .before .before .before .before .before .before .before .before .before .before .before .before .before .before .before) .args .work .now) ((c .before .before .before .before .before .before .before .before .before .before .before .before .before .before .before .before .before .before .before .before .before .before .before .before .before .before) .args .plan) ((c .before .before .before .before .before .before .before .before .before .before .before .before .before .before .before .before .before .before) .calls-of .ensures) in
     let e = (c .before .before .before .before .before .before .before .before .before .before .before .before .before .before .before) .count-ones .ensures (x .accepted .program .functions) (none-from (x .accepted) ((c .before .before .before .before .before .before .before .before .before .before .before .before .before .before .before .before .before .before .before .before .before .before .before .before .before .before) .args .plan) d q) ∙ after-told (x .accepted) ((c .before .before .before .before .before .before .before .before .before .before .before .before .before .before .before .before .before .before .before .before .before .before .before .before .before .before) .args .plan) d q in
     let u = (c .before .before .before .before .before .before .before .before .before .before .before .before) .count-lists .ensures .1 .1 in
-    (record { program = x .accepted .program; reporting = used-reporting u (record { removing = d .removing; figures = (c .before .before .before .before .before .before .before .before .before .before .before .before) .count-lists .ensures .0 (x .accepted .program) (d .removing) e .0 }); few = (c .before .before .before .before .before .before .before .before .before .before .before .before) .count-lists .ensures .1 .0 }, x .few, u .remembers)
+    (record { program = x .accepted .program; reporting = used-reporting u (record { removing = d .removing; figures = (c .before .before .before .before .before .before .before .before .before .before .before .before) .count-lists .ensures .0 (x .accepted .program) (d .removing) e (d .root-is) .0 }); few = (c .before .before .before .before .before .before .before .before .before .before .before .before) .count-lists .ensures .1 .0 }, x .few, u .remembers)
 
 mul-write-kept : tie.Need-mul-write-kept
 mul-write-kept c = let x = (c .before .before .before .before .before .before .before .before .before .before .before .before .before .before .before .before .before .before .before .before .before .before .before .before .before .before .before .before .before .before .before) .pre .0 .delivery .removing .readable .indexed in record { fits = omega (arith, x .fits, x .small) }
@@ -143,12 +143,12 @@ returns-2 c = (
       let few = (c .before .before .before .before .before .before .before .before .before .before .before .before .before .before .before .before .before .before .before .before .before .before .before .before .before .before .before .before .before .before .before .before .before .before .before .before .before) .pre .0 .few in
       let q = marks-are (g .work .now) (g .plan) ((c .before .before .before .before .before .before .before .before .before .before .before .before .before .before .before .before .before .before .before .before .before .before .before .before .before .before .before .before .before) .calls-of .ensures) in
       let e = (c .before .before .before .before .before .before .before .before .before .before .before .before .before .before .before .before .before .before .before .before .before .before .before .before .before .before) .count-ones .ensures (a .program .functions) (none-from a (g .plan) d q) ∙ after-told a (g .plan) d q in
-      let f = (c .before .before .before .before .before .before .before .before .before .before .before .before .before .before .before .before .before .before .before .before .before .before .before) .count-lists .ensures .0 (a .program) (d .removing) e in
+      let f = (c .before .before .before .before .before .before .before .before .before .before .before .before .before .before .before .before .before .before .before .before .before .before .before) .count-lists .ensures .0 (a .program) (d .removing) e (d .root-is) in
       let u = (c .before .before .before .before .before .before .before .before .before .before .before .before .before .before .before .before .before .before .before .before .before .before .before) .count-lists .ensures .1 .1 in
       let o = used-then u ((c .before .before .before .before .before .before .before .before .before .before) .format-clean-report .ensures .1) in
       let r = used-reporting u (record { removing = d .removing; figures = f .0 }) in
       let t = emitted-used u (a .program) (g .rounds) ((c .before .before .before .before .before .before .before .before .before .before .before .before .before .before .before .before) .measure-clean-report .ensures (a .program) r (d .root-is)) in
-      let s = still ((c .before .before .before .before .before .before .before .before .before .before .before .before .before .before .before .before .before .before .before .before .before .before .before) .count-lists .last .1 .1 .1 .1 .1 .0) ((c .before .before .before .before .before .before .before .before .before .before .before .before .before .before .before .before) .measure-clean-report .last .1 .1 .1 .1 .1 .1 .0) (g .report .now) _ _ (f .1) t in
+      let s = still ((c .before .before .before .before .before .before .before .before .before .before .before .before .before .before .before .before .before .before .before .before .before .before .before) .count-lists .last .1 .1 .1 .1 .1 .1 .0) ((c .before .before .before .before .before .before .before .before .before .before .before .before .before .before .before .before) .measure-clean-report .last .1 .1 .1 .1 .1 .1 .0) (g .report .now) _ _ (f .1) t in
       let k = (c .before .before) .write-kept .ensures a in
       let m = marks-are _ (g .plan) ((c .before .before .before .before .before .before .before .before .before .before .before .before .before .before .before .before .before .before .before .before .before .before .before .before .before .before .before .before .before) .calls-of .ensures) ∙ marks-used o (d .removing .readable .indexed .fits) in
       wrote-all (a .program) _ _ (image-told a (g .plan) d m) (text-told a (g .plan) d q) (report-short (d .removing .readable) _ (g .rounds) few) (g .output .now) (g .report .now)

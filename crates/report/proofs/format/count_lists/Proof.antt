@@ -2,21 +2,24 @@
 use Prim.Native.Nat.{ℕ, _+_}
 use native.Mathlib.Omega.{arith}
 use mathlib.Core.Path.{_≡_, ap, _∙_}
-use mathlib.Core.List.{flatMap}
+use mathlib.Core.List.{List, flatMap}
 use lib.ListN.{length, length-map}
-use Rattle.program.specs.Syntax.{Program}
+use Rattle.program.specs.Syntax.{Name, Program}
 use Rattle.meaning.specs.Lists.{firsts}
 use Rattle.cleaning.specs.Indexed.{fellOf}
 use Rattle.told.specs.ToldReport.{fallenFrom, sameFallen, removedOf}
 use Rattle.cleaning.proofs.Room.{used-fell, used-then}
-use Rattle.meaning.specs.Report.{uncoveredLine}
+use Rattle.meaning.specs.Report.{uncoveredLine, uncharacterisedLine}
 use Rattle.text.proofs.Fill.{emitted-length, emitted-same}
 use Rattle.report.specs.Removed.{Removing}
 use Rattle.report.proofs.RoomUsed.{used-readable, used-some}
-use Rattle.report.proofs.Whole.{removed-few, undecided-few, uncovered-few, removedNow, undecidedNow, uncoveredNow, figures-told}
+use Rattle.report.proofs.Whole.{removed-few, undecided-few, uncovered-few, removedNow, undecidedNow, uncoveredNow, names-told, figures-told}
 use borrow.Author.Needs.{needs}
 use Rattle.report.proofs.format.count_lists.Statement.{statement}
 use Rattle.report.proofs.format.count_lists.Tie as tie
+
+put-uncharacterised-requires : tie.Need-put-uncharacterised-requires
+put-uncharacterised-requires c κs = search needs
 
 put-removed-requires : tie.Need-put-removed-requires
 put-removed-requires c κs = search needs
@@ -26,7 +29,7 @@ put-undecided-requires c κs = search needs
 
 put-uncovered-requires : tie.Need-put-uncovered-requires
 put-uncovered-requires c κs =
-    let p = c .before .before .before .before .before .before .before .before .before .before .before .before .before .before .before .before .before .pre .0 in
+    let p = c .before .before .before .before .before .before .before .before .before .before .before .before .before .before .before .before .before .before .before .before .before .before .pre .0 in
     let u = c .before .before .before .before .before .before .put-undecided .ensures .1 .1 .1 in
     (used-some u (record { program = p .program; readable = p .removing .readable }), omega arith, u .remembers)
 
@@ -37,41 +40,44 @@ same-length-2 : tie.Need-same-length-2
 same-length-2 c = search needs
 
 -- How many uncovered restrictions are counted.
-uncovered-is : (c : tie.After-put-uncovered) (w : Program) → let a = c .before .before .before .before .before .before .before .before .before .before .before .before .before .before .before .before .before .before .args in Removing (a .b .now) w (a .work .now) (a .plan) (a .rounds) → c .put-uncovered .result .count ≡ length (uncoveredNow w (fellOf (a .plan) (a .work .now)) (a .rounds))
+uncovered-is : (c : tie.After-put-uncovered) (w : Program) → let a = c .before .before .before .before .before .before .before .before .before .before .before .before .before .before .before .before .before .before .before .before .before .before .before .args in Removing (a .b .now) w (a .work .now) (a .plan) (a .rounds) → c .put-uncovered .result .count ≡ length (uncoveredNow w (fellOf (a .plan) (a .work .now)) (a .rounds))
 uncovered-is c w x =
     let u = c .before .before .before .before .before .before .before .put-undecided .ensures .1 .1 .1 in
-    c .put-uncovered .ensures .1 .0 w (used-readable u (x .readable)) ∙ ap (λ (f : ℕ → ℕ). length (uncoveredNow w f (c .before .before .before .before .before .before .before .before .before .before .before .before .before .before .before .before .before .before .args .rounds))) (used-fell u)
+    c .put-uncovered .ensures .1 .0 w (used-readable u (x .readable)) ∙ ap (λ (f : ℕ → ℕ). length (uncoveredNow w f (c .before .before .before .before .before .before .before .before .before .before .before .before .before .before .before .before .before .before .before .before .before .before .before .args .rounds))) (used-fell u)
 
 -- And where their lines end.
 uncovered-put : (c : tie.After-put-uncovered) (w : Program)
-    → let a = c .before .before .before .before .before .before .before .before .before .before .before .before .before .before .before .before .before .before .args in Removing (a .b .now) w (a .work .now) (a .plan) (a .rounds) → c .put-uncovered .result .at ≡ 0 + length (flatMap uncoveredLine (uncoveredNow w (fellOf (a .plan) (a .work .now)) (a .rounds)))
+    → let a = c .before .before .before .before .before .before .before .before .before .before .before .before .before .before .before .before .before .before .before .before .before .before .before .args in Removing (a .b .now) w (a .work .now) (a .plan) (a .rounds) → c .put-uncovered .result .at ≡ 0 + length (flatMap uncoveredLine (uncoveredNow w (fellOf (a .plan) (a .work .now)) (a .rounds)))
 uncovered-put c w x =
     let u = c .before .before .before .before .before .before .before .put-undecided .ensures .1 .1 .1 in
-    c .put-uncovered .ensures .0 w (used-readable u (x .readable)) .after ∙ ap (λ (f : ℕ → ℕ). 0 + length (flatMap uncoveredLine (uncoveredNow w f (c .before .before .before .before .before .before .before .before .before .before .before .before .before .before .before .before .before .before .args .rounds)))) (used-fell u)
+    c .put-uncovered .ensures .0 w (used-readable u (x .readable)) .after ∙ ap (λ (f : ℕ → ℕ). 0 + length (flatMap uncoveredLine (uncoveredNow w f (c .before .before .before .before .before .before .before .before .before .before .before .before .before .before .before .before .before .before .before .before .before .before .before .args .rounds)))) (used-fell u)
 
 returns : tie.Need-returns
 returns c =
-    let a = (c .before .before .before .before .before .before .before .before .before .before .before .before .before .before .before .before .before .before .before .before .before .before) .args in
+    let a = (c .before .before .before .before .before .before .before .before .before .before .before .before .before .before .before .before .before .before .before .before .before .before .before .before .before .before .before) .args in
     let fell = fellOf (a .plan) (a .work .now) in
-    let w = (c .before .before .before .before .before .before .before .before .before .before .before .before .before .before .before .before .before .before .before .before .before .before) .pre .0 .program in
-    let x = (c .before .before .before .before .before .before .before .before .before .before .before .before .before .before .before .before .before .before .before .before .before .before) .pre .0 .removing in
+    let w = (c .before .before .before .before .before .before .before .before .before .before .before .before .before .before .before .before .before .before .before .before .before .before .before .before .before .before .before) .pre .0 .program in
+    let x = (c .before .before .before .before .before .before .before .before .before .before .before .before .before .before .before .before .before .before .before .before .before .before .before .before .before .before .before) .pre .0 .removing in
+    let names = c .before .before .before .before .before .before .before .before .before .before .before .before .before .before .before .before .before .before .before .before .before .put-uncharacterised .ensures in
     let removed = c .before .before .before .before .before .before .before .before .before .before .before .before .before .before .before .before .put-removed .ensures in
     let undecided = c .before .before .before .before .before .before .before .before .before .before .before .put-undecided .ensures in
     let uncovered = c .before .before .before .before .put-uncovered .ensures in
     let u = undecided .1 .1 .1 in (
-      λ w x e. (
-        figures-told w fell (a .rounds) (x .below) ((c .before .before .before .before .before .before .before .before .before .before .before .before .before .before .before .before .before .before .before .before .before .before) .pre .1) _ e (removed .1 .0 w x) (undecided .1 .0 w (x .readable)) (uncovered-is (c .before .before .before .before) w x) (omega (arith, removed .0 w x .after)) (omega (arith, undecided .0 w (x .readable) .after)) (omega (arith, uncovered-put (c .before .before .before .before) w x)),
-        emitted-length (uncovered .0 w (used-readable u (x .readable))) ∙ (emitted-length (undecided .0 w (x .readable)) ∙ emitted-length (removed .0 w x)),
+      λ w x e k. (
+        figures-told w fell (a .rounds) (x .below) ((c .before .before .before .before .before .before .before .before .before .before .before .before .before .before .before .before .before .before .before .before .before .before .before .before .before .before .before) .pre .1) _ e (removed .1 .0 w x) (undecided .1 .0 w (x .readable)) (uncovered-is (c .before .before .before .before) w x) (omega (arith, removed .0 w x .after)) (omega (arith, undecided .0 w (x .readable) .after)) (omega (arith, uncovered-put (c .before .before .before .before) w x)) (names .1 .0 w (x .readable) ∙ ap length (names-told w fell (a .rounds) (a .root) k)) (omega (arith, names .0 w (x .readable) .after, ap (λ (l : List Name). length (uncharacterisedLine l)) (names-told w fell (a .rounds) (a .root) k))),
+        emitted-length (uncovered .0 w (used-readable u (x .readable))) ∙ (emitted-length (undecided .0 w (x .readable)) ∙ (emitted-length (removed .0 w x) ∙ emitted-length (names .0 w (x .readable)))),
       ),
       (
         record {
-          after = omega (arith, (c .before .before .before .before .before .before .before .before .before .before .before .before .before .before .before .before .before .before .before .before .before .before) .pre .2);
+          after = omega (arith, (c .before .before .before .before .before .before .before .before .before .before .before .before .before .before .before .before .before .before .before .before .before .before .before .before .before .before .before) .pre .2);
           removed = omega (arith, removed .1 .0 w x, length-map (firsts sameFallen (fallenFrom w fell 1 (a .rounds))) (removedOf w fell), removed-few (removedNow w fell (a .rounds)) (removed .0 w x), removed .1 .1);
           undecided = omega (arith, undecided .1 .0 w (x .readable), undecided-few (undecidedNow w fell (a .rounds)) (undecided .0 w (x .readable)), undecided .1 .1 .0);
           uncovered = omega (arith, uncovered-is (c .before .before .before .before) w x, uncovered-few (uncoveredNow w fell (a .rounds)) (emitted-same (ap (λ (f : ℕ → ℕ). flatMap uncoveredLine (uncoveredNow w f (a .rounds))) (used-fell u)) (uncovered .0 w (used-readable u (x .readable)))), uncovered .1 .1 .0);
+          uncharacterised = omega (arith, names .1 .1 .1);
           removed-length = omega (arith, removed .1 .1);
           undecided-length = omega (arith, undecided .1 .1 .0);
           uncovered-length = omega (arith, uncovered .1 .1 .0);
+          uncharacterised-length = omega (arith, names .1 .1 .0);
         },
         used-then u (uncovered .1 .1 .1),
       ),
@@ -81,6 +87,7 @@ pub count-lists-spec : {M : Type 1} → statement M
 count-lists-spec =
     tie.close
     (tie.spec
+    put-uncharacterised-requires
     put-removed-requires
     put-undecided-requires
     put-uncovered-requires

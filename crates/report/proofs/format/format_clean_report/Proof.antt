@@ -102,8 +102,8 @@ module _ {M : Type 1} (𝓤 : URA M) (H : Heap 𝓤) (A : Atoms 𝓤) (mem : Mem
   top-of : (κ : Lft) (h : Writer) (f u v c d : ℕ) (r : Writer) → ent 𝓤 (ensured 𝓤 H A with-top.ended (with-top.clauses 𝓤 H A mem run) (κ, tt) (h, (f, (u, (v, (c, (d, tt)))))) tt r) (fact 𝓤 ((r ≡ written h (topText f u v c d)) × (r .filled ≤ h .filled + 150)))
   top-of κ h f u v c d r = exE 𝓤 _ (λ ws. snd∗ 𝓤 (sem 𝓤 H A (lasts with-top.ended (κ, tt) (h, (f, (u, (v, (c, (d, tt)))))) ws)) (fact 𝓤 ((r ≡ written h (topText f u v c d)) × (r .filled ≤ h .filled + 150))))
 
-  graph-of : (κ : Lft) (h : Writer) (f u v : ℕ) (r : Writer) → ent 𝓤 (ensured 𝓤 H A with-graph.ended (with-graph.clauses 𝓤 H A mem run) (κ, tt) (h, (f, (u, (v, tt)))) tt r) (fact 𝓤 (r ≡ written h (graphText f u v)))
-  graph-of κ h f u v r = exE 𝓤 _ (λ ws. snd∗ 𝓤 (sem 𝓤 H A (lasts with-graph.ended (κ, tt) (h, (f, (u, (v, tt)))) ws)) (fact 𝓤 (r ≡ written h (graphText f u v))))
+  graph-of : (κ : Lft) (h : Writer) (f u v c : ℕ) (r : Writer) → ent 𝓤 (ensured 𝓤 H A with-graph.ended (with-graph.clauses 𝓤 H A mem run) (κ, tt) (h, (f, (u, (v, (c, tt))))) tt r) (fact 𝓤 (r ≡ written h (graphText f u v c)))
+  graph-of κ h f u v c r = exE 𝓤 _ (λ ws. snd∗ 𝓤 (sem 𝓤 H A (lasts with-graph.ended (κ, tt) (h, (f, (u, (v, (c, tt))))) ws)) (fact 𝓤 (r ≡ written h (graphText f u v c))))
 
 fits : (n : ℕ) → n < 100000000000000000 → n < 2 ^ 64
 fits n few = omega (arith, few)
@@ -120,7 +120,7 @@ module _ (y m : RefT (List ℕ)) (p : Plan) (root rounds : ℕ) (g : Figures) wh
   listed w = listedText w root (fellOf p (m .now)) rounds
 
   abbrev graph : Text
-  graph = graphText (p .functions) (g .undecided) (g .uncovered)
+  graph = graphText (p .functions) (g .undecided) (g .uncovered) (g .uncharacterised)
 
   abbrev OfProgram : Program → Type 0
   OfProgram w = Reporting (y .now) w (m .now) p rounds g
@@ -236,12 +236,13 @@ module _ {M : Type 1} (𝓤 : URA M) (H : Heap 𝓤) (A : Atoms 𝓤) (W : Given
       nothing ! $ move ! (1 ∷ 0 ∷ []) $ fjoin ! $ move ! (1 ∷ 0 ∷ []) $ by ! (last-in 𝓤 H A W (ShrSlice (named 0) κ₀ u8 .own y (bv ∷ [])) (MutSlice (named 1) κ₁ u32 .own m (mv ∷ [])) (P.the-row .own p (pv ∷ [])) (usize .own root (vint w64 root ∷ [])) (usize .own rounds (vint w64 rounds ∷ [])) (G.the-row .own g (gv ∷ [])) (fsep (T.the-row α .own h₁ (v ∷ [])) ftrue))
 
   abbrev to-graph : Val → WithGraph 𝓤 H A mem run .Ghost
-  to-graph v = (((κ, tt), (q, tt), tt, (h₂, (p .functions, (g .undecided, (g .uncovered, tt)))), (v ∷ [], (vint w64 (p .functions) ∷ [], (vint w64 (g .undecided) ∷ [], (vint w64 (g .uncovered) ∷ [], tt))))), tt)
+  to-graph v = (((κ, tt), (q, tt), tt, (h₂, (p .functions, (g .undecided, (g .uncovered, (g .uncharacterised, tt))))), (v ∷ [], (vint w64 (p .functions) ∷ [], (vint w64 (g .undecided) ∷ [], (vint w64 (g .uncovered) ∷ [], (vint w64 (g .uncharacterised) ∷ [], tt)))))), tt)
 
-  goes-graph : (v : Val) → h₂ .filled + 80 ≤ limit → ent 𝓤 (sep 𝓤 (A .lft κ q) (sem 𝓤 H A (T.the-row α .own h₂ (v ∷ [])))) (WithGraph 𝓤 H A mem run .pre (to-graph v))
+  goes-graph : (v : Val) → h₂ .filled + 120 ≤ limit → ent 𝓤 (sep 𝓤 (A .lft κ q) (sem 𝓤 H A (T.the-row α .own h₂ (v ∷ [])))) (WithGraph 𝓤 H A mem run .pre (to-graph v))
   goes-graph v short =
-      qed W (‵ (flft κ q) ∷ ‵ (T.the-row α .own h₂ (v ∷ [])) ∷ []) ∵ says ! (functions-few y m p root rounds g asked, asked .0 .few .undecided, asked .0 .few .uncovered, short) $ nothing ! $ move ! (1 ∷ 0 ∷ []) $ join ! $ frame ! $
-      nothing ! $ owned ! usize (Is usize) (uint-makes 𝓤 H A W w64) (g .uncovered) _ (refl, fits _ (asked .0 .few .uncovered)) $ fjoin ! $ owned ! usize (Is usize) (uint-makes 𝓤 H A W w64) (g .undecided) _ (refl, fits _ (asked .0 .few .undecided)) $ fjoin ! $ owned ! usize (Is usize) (uint-makes 𝓤 H A W w64) (p .functions) _ (refl, fits _ (functions-few y m p root rounds g asked)) $ fjoin ! $ move ! (1 ∷ 0 ∷ []) $ fjoin ! $ done !
+      qed W (‵ (flft κ q) ∷ ‵ (T.the-row α .own h₂ (v ∷ [])) ∷ []) ∵ says ! (functions-few y m p root rounds g asked, asked .0 .few .undecided, asked .0 .few .uncovered, asked .0 .few .uncharacterised, short) $ nothing ! $ move ! (1 ∷ 0 ∷ []) $ join ! $ frame ! $
+      nothing ! $ owned ! usize (Is usize) (uint-makes 𝓤 H A W w64) (g .uncharacterised) _ (refl, fits _ (asked .0 .few .uncharacterised)) $ fjoin ! $ owned ! usize (Is usize) (uint-makes 𝓤 H A W w64) (g .uncovered) _ (refl, fits _ (asked .0 .few .uncovered)) $ fjoin ! $
+      owned ! usize (Is usize) (uint-makes 𝓤 H A W w64) (g .undecided) _ (refl, fits _ (asked .0 .few .undecided)) $ fjoin ! $ owned ! usize (Is usize) (uint-makes 𝓤 H A W w64) (p .functions) _ (refl, fits _ (functions-few y m p root rounds g asked)) $ fjoin ! $ move ! (1 ∷ 0 ∷ []) $ fjoin ! $ done !
 
   -- what `with_lists` ensures, of the entries ms that it leaves; by the first part it does not matter which program is told
   abbrev Told : Writer → List ℕ → Type 0
@@ -309,9 +310,9 @@ module _ {M : Type 1} (𝓤 : URA M) (H : Heap 𝓤) (A : Atoms 𝓤) (W : Given
         assigns ! (of-opd ! (load ! (from ! (stop !)) (look ! 19 refl))) (from ! (stop !)) (init ! 3 refl (writer-typed α h₂ v₂ is₂)) $
         move ! (1 ∷ []) $ use1 W (‵ (flft κ q) ⊛ (‵ (flft κ₀ q₀) ⊛ ‵ (flft κ₁ q₁))) (tokens-out 𝓤 H A W κ₀ κ₁ κ q₀ q₁ q) $ split ! $ move ! (0 ∷ 2 ∷ []) $
         use2 W (raw (WithGraph 𝓤 H A mem run .pre (to-graph v₂))) (goes-graph v₂ (omega (arith, ap (λ (h : Writer). h .filled) (e₂ .0 w₀ (asked .0 .reporting)), e₂ .1))) $
-        calls-at ! fm (WithGraph 𝓤 H A mem run) known-graph (to-graph v₂) (and-then ! (load ! (from ! (stop !)) (look ! 3 refl)) (and-then ! (load ! (from ! (fld ! refl (stop !))) (look-in ! 33 (sub ! 0 refl (whole !)))) (and-then ! (load ! (from ! (fld ! refl (stop !))) (look-in ! 27 (sub ! 2 refl (whole !)))) (and-then ! (load ! (from ! (fld ! refl (stop !))) (look-in ! 27 (sub ! 3 refl (whole !)))) (no-more !))))) (λ v₃.
-        use1 W (later (some (λ (r : Writer). ((‵ (flft κ q) ⊛ ‵ ftrue) ⊛ ‵ (T.the-row α .own r (v₃ ∷ []))) ⊛ raw (ensured 𝓤 H A with-graph.ended (with-graph.clauses 𝓤 H A mem run) (κ, tt) (h₂, (p .functions, (g .undecided, (g .uncovered, tt)))) tt r)))) (id⊢ 𝓤 _) $ await ! tt $ pick ! (λ r₃.
-        split ! $ move ! (1 ∷ []) $ use1 W (raw (fact 𝓤 (r₃ ≡ h₃))) (graph-of 𝓤 H A mem run κ h₂ (p .functions) (g .undecided) (g .uncovered) r₃) $ heard ! (r₃ ≡ h₃) (λ e₃.
+        calls-at ! fm (WithGraph 𝓤 H A mem run) known-graph (to-graph v₂) (and-then ! (load ! (from ! (stop !)) (look ! 3 refl)) (and-then ! (load ! (from ! (fld ! refl (stop !))) (look-in ! 33 (sub ! 0 refl (whole !)))) (and-then ! (load ! (from ! (fld ! refl (stop !))) (look-in ! 27 (sub ! 2 refl (whole !)))) (and-then ! (load ! (from ! (fld ! refl (stop !))) (look-in ! 27 (sub ! 3 refl (whole !)))) (and-then ! (load ! (from ! (fld ! refl (stop !))) (look-in ! 27 (sub ! 4 refl (whole !)))) (no-more !)))))) (λ v₃.
+        use1 W (later (some (λ (r : Writer). ((‵ (flft κ q) ⊛ ‵ ftrue) ⊛ ‵ (T.the-row α .own r (v₃ ∷ []))) ⊛ raw (ensured 𝓤 H A with-graph.ended (with-graph.clauses 𝓤 H A mem run) (κ, tt) (h₂, (p .functions, (g .undecided, (g .uncovered, (g .uncharacterised, tt))))) tt r)))) (id⊢ 𝓤 _) $ await ! tt $ pick ! (λ r₃.
+        split ! $ move ! (1 ∷ []) $ use1 W (raw (fact 𝓤 (r₃ ≡ h₃))) (graph-of 𝓤 H A mem run κ h₂ (p .functions) (g .undecided) (g .uncovered) (g .uncharacterised) r₃) $ heard ! (r₃ ≡ h₃) (λ e₃.
         split ! $ rewrite ! 1 (λ (h : Writer). ‵ (T.the-row α .own h (v₃ ∷ []))) e₃ refl $
         move ! (1 ∷ []) $ peeks ! (T.the-row α) (Is (T.the-row α)) (shows 𝓤 H A (T.the-row α)) h₃ (v₃ ∷ []) (λ is₃. land ! (from ! (stop !)) (init ! 18 refl (writer-typed α h₃ v₃ is₃)) $
         -- the writer's machine value is written out, and the writer is taken apart

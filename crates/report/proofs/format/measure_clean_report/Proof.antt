@@ -3,16 +3,13 @@ use native.Mathlib.Omega.{arith}
 use mathlib.Core.Path.{_∙_}
 use mathlib.Core.List.{_++_}
 use Rattle.patterns.specs.Ascii.{ascii}
-use Rattle.patterns.specs.Names.{sameName}
-use Rattle.meaning.specs.Lists.{firsts}
-use Rattle.told.specs.Numbered.{sitesOf}
 use Rattle.cleaning.specs.Indexed.{fellOf}
-use Rattle.told.specs.ToldReport.{uncharacterisedNames, toldReport}
+use Rattle.told.specs.ToldReport.{toldReport}
 use Rattle.text.specs.Counts.{topText, graphText}
 use Rattle.meaning.specs.Report.{uncharacterisedLine}
 use Rattle.text.proofs.Fill.{emitted-append, emitted-same, emitted-length}
 use Rattle.report.specs.Format.{listsText}
-use Rattle.report.proofs.Whole.{lists-measured, whole-told}
+use Rattle.report.proofs.Whole.{lists-measured, names-measured, whole-told}
 use borrow.Author.Needs.{needs}
 use Rattle.report.proofs.format.measure_clean_report.Statement.{statement}
 use Rattle.report.proofs.format.measure_clean_report.Tie as tie
@@ -43,37 +40,37 @@ add-open c =
     let few = c .before .before .before .before .before .before .before .before .before .before .before .before .before .before .before .before .before .before .before .before .pre .0 .few in
     omega (arith, c .before .before .before .put-count-line2 .ensures .1, c .before .before .before .before .before .before .before .before .before .put-count-line .ensures .1, c .before .before .before .before .before .before .before .before .before .before .before .before .before .before .before .put-top .ensures .1, few .removed-length, few .undecided-length, few .uncovered-length)
 
-put-uncharacterised-requires : tie.Need-put-uncharacterised-requires
-put-uncharacterised-requires c κs =
-    let p = c .before .before .before .before .before .before .before .before .before .before .before .before .before .before .before .before .before .before .before .before .before .pre .0 in
-    (record { program = p .program; readable = p .reporting .removing .readable }, omega (arith, c .before .before .before .before .put-count-line2 .ensures .1, c .before .before .before .before .before .before .before .before .before .before .put-count-line .ensures .1, c .before .before .before .before .before .before .before .before .before .before .before .before .before .before .before .before .put-top .ensures .1, p .few .removed-length, p .few .undecided-length, p .few .uncovered-length))
+add-fourth : tie.Need-add-fourth
+add-fourth c =
+    let few = c .before .before .before .before .before .before .before .before .before .before .before .before .before .before .before .before .before .before .before .before .before .pre .0 .few in
+    omega (arith, c .before .before .before .before .put-count-line2 .ensures .1, c .before .before .before .before .before .before .before .before .before .before .put-count-line .ensures .1, c .before .before .before .before .before .before .before .before .before .before .before .before .before .before .before .before .put-top .ensures .1, few .removed-length, few .undecided-length, few .uncovered-length, few .uncharacterised-length)
 
 put-graph-requires : tie.Need-put-graph-requires
 put-graph-requires c κs =
-    let p = c .before .before .before .before .before .before .before .before .before .before .before .before .before .before .before .before .before .before .before .before .before .before .before .before .before .pre .0 in
+    let p = c .before .before .before .before .before .before .before .before .before .before .before .before .before .before .before .before .before .before .before .before .before .before .pre .0 in
     let few = p .few in
     let d = p .reporting .removing .readable .indexed in
-    (omega (arith, d .fits, d .small), few .undecided, few .uncovered, omega (arith, c .before .before .before .put-uncharacterised .ensures .1, c .before .before .before .before .before .before .before .before .put-count-line2 .ensures .1, c .before .before .before .before .before .before .before .before .before .before .before .before .before .before .put-count-line .ensures .1, c .before .before .before .before .before .before .before .before .before .before .before .before .before .before .before .before .before .before .before .before .put-top .ensures .1, few .removed-length, few .undecided-length, few .uncovered-length))
+    (omega (arith, d .fits, d .small), few .undecided, few .uncovered, few .uncharacterised, omega (arith, c .before .before .before .before .before .put-count-line2 .ensures .1, c .before .before .before .before .before .before .before .before .before .before .before .put-count-line .ensures .1, c .before .before .before .before .before .before .before .before .before .before .before .before .before .before .before .before .before .put-top .ensures .1, few .removed-length, few .undecided-length, few .uncovered-length, few .uncharacterised-length))
 
 same-length : tie.Need-same-length
-same-length c =
-    let p = c .before .before .before .before .before .before .before .before .before .before .before .before .before .before .before .before .before .before .before .before .before .before .before .before .before .before .before .before .pre .0 in
-    emitted-length (c .before .before .put-graph .ensures)
-    ∙ (emitted-length (c .before .before .before .before .before .before .put-uncharacterised .ensures .0 (p .program) (p .reporting .removing .readable)) ∙ (emitted-length (c .before .before .before .before .before .before .before .before .before .before .before .put-count-line2 .ensures .0) ∙ (emitted-length (c .before .before .before .before .before .before .before .before .before .before .before .before .before .before .before .before .before .put-count-line .ensures .0) ∙ emitted-length (c .before .before .before .before .before .before .before .before .before .before .before .before .before .before .before .before .before .before .before .before .before .before .before .put-top .ensures .0))))
+same-length c = emitted-length (c .before .before .put-graph .ensures) ∙ (emitted-length (c .before .before .before .before .before .before .before .before .put-count-line2 .ensures .0) ∙ (emitted-length (c .before .before .before .before .before .before .before .before .before .before .before .before .before .before .put-count-line .ensures .0) ∙ emitted-length (c .before .before .before .before .before .before .before .before .before .before .before .before .before .before .before .before .before .before .before .before .put-top .ensures .0)))
 
 returns : tie.Need-returns
 unfolding ascii
 returns c = λ w x root.
-    let a = c .before .before .before .before .before .before .before .before .before .before .before .before .before .before .before .before .before .before .before .before .before .before .before .before .before .before .before .before .args in
+    let a = c .before .before .before .before .before .before .before .before .before .before .before .before .before .before .before .before .before .before .before .before .before .before .before .before .before .args in
     let r = toldReport w (fellOf (a .plan) (a .work .now)) (a .rounds) in
     let d = x .removing .readable in
-    let names = uncharacterisedLine (firsts sameName (uncharacterisedNames (a .root) (sitesOf w) 0 (w .functions))) in
-    let graph = graphText (a .plan .functions) (a .figures .undecided) (a .figures .uncovered) in
-    let top = c .before .before .before .before .before .before .before .before .before .before .before .before .before .before .before .before .before .before .before .before .before .before .before .put-top .ensures .0 in
-    emitted-same (whole-told w (fellOf (a .plan) (a .work .now)) (a .rounds) (a .plan) (a .root) (a .figures) (x .figures) (d .indexed .functions) (d .indexed .sentences) root)
+    let names = uncharacterisedLine (r .uncharacterised) in
+    let graph = graphText (a .plan .functions) (a .figures .undecided) (a .figures .uncovered) (a .figures .uncharacterised) in
+    let top = c .before .before .before .before .before .before .before .before .before .before .before .before .before .before .before .before .before .before .before .before .put-top .ensures .0 in
+    let second = c .before .before .before .before .before .before .before .before .before .before .before .before .before .before .put-count-line .ensures .0 in
+    let third = c .before .before .before .before .before .before .before .before .put-count-line2 .ensures .0 in
+    let none = emitted-length top ∙ c .before .before .before .before .before .before .before .before .before .before .before .before .before .before .before .before .before .before .before .before .before .before .before .before .before .pre .2 in
+    emitted-same (whole-told w (fellOf (a .plan) (a .work .now)) (a .rounds) (a .plan) (a .figures) (x .figures) (d .indexed .functions) (d .indexed .sentences))
     (emitted-append (topText (a .plan .functions) (a .plan .sentences) (a .figures .after) (a .rounds) (a .figures .removed)) (listsText r ++ (names ++ graph)) top
-    (emitted-append (listsText r) (names ++ graph) (lists-measured r (a .figures) (x .figures) (emitted-length top ∙ c .before .before .before .before .before .before .before .before .before .before .before .before .before .before .before .before .before .before .before .before .before .before .before .before .before .before .before .before .pre .2) (c .before .before .before .before .before .before .before .before .before .before .before .before .before .before .before .before .before .put-count-line .ensures .0) (c .before .before .before .before .before .before .before .before .before .before .before .put-count-line2 .ensures .0))
-    (emitted-append names graph (c .before .before .before .before .before .before .put-uncharacterised .ensures .0 w d) (c .before .before .put-graph .ensures))))
+    (emitted-append (listsText r) (names ++ graph) (lists-measured r (a .figures) (x .figures) none second third)
+    (emitted-append names graph (names-measured _ _ r (a .figures) (x .figures) (emitted-length third ∙ (emitted-length second ∙ none))) (c .before .before .put-graph .ensures))))
 
 pub measure-clean-report-spec : {M : Type 1} → statement M
 measure-clean-report-spec =
@@ -87,7 +84,7 @@ measure-clean-report-spec =
     slice-aggregate-put-count-line-2
     put-count-line-requires-2
     add-open
-    put-uncharacterised-requires
+    add-fourth
     put-graph-requires
     same-length
     returns)

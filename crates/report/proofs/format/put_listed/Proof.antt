@@ -35,7 +35,7 @@ returns c =
     let l = c .before .before .before .before .before .before .before .before .before .put-lists .ensures in
     let n = c .before .before .put-uncharacterised .ensures in (
       λ p x. emitted-append (listsText (toldReport p (fellOf (a .plan) (a .work .now)) (a .rounds))) (uncharacterisedLine (firsts sameName (uncharacterisedNames (a .root) (sitesOf p) 0 (p .functions)))) (l .0 p x) (n .0 p (used-readable (l .1 .1) (x .removing .readable))),
-      omega (arith, l .1 .0, n .1),
+      omega (arith, l .1 .0, n .1 .1 .0),
       l .1 .1,
     )
 

@@ -80,8 +80,8 @@ pub written-as : (image output output′ : List ℕ) (n : ℕ) → n ≡ length 
 unfolding written
 written-as image output output′ n e f = f ∙ ap (λ (k : ℕ). image ++ drop k output) e
 
-pub marks-are : (m : List ℕ) (p : Plan) {end : ℕ} → end ≡ calls p → take (end - marks p) (drop (marks p) m) ≡ marksIn p m
-marks-are m p e = ap (λ (k : ℕ). take (k - marks p) (drop (marks p) m)) e
+pub marks-are : (m : List ℕ) (p : Plan) {from end : ℕ} → from ≡ marks p → end ≡ calls p → take (end - from) (drop from m) ≡ marksIn p m
+marks-are m p {from} d e = ap (λ (k : ℕ). take (k - from) (drop from m)) e ∙ ap (λ (k : ℕ). take (calls p - k) (drop k m)) d
 
 -- ---- verdicts have been asked meanwhile
 

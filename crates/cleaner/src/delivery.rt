@@ -2,8 +2,9 @@
 use crate::refused;
 use answers::CleanAnswer;
 use answers::Lengths;
-use cleaning::walks::calls_of;
 use index::Plan;
+use index::columns::calls_of;
+use index::columns::marks_of;
 use output::mark::count_ones;
 use output::writer::write_kept;
 use report::format::count_lists;
@@ -34,7 +35,7 @@ pub fn deliver(
 {
     let n = img.len() - 12;
     let b = &img[..n];
-    let from = 2 * plan.functions + 2 * plan.sentences;
+    let from = marks_of(plan);
     let end = calls_of(plan);
     let after = count_ones(&work[from..end]);
     let figures = count_lists(b, work, plan, root, rounds, after, &mut report[..0]);

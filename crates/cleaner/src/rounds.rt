@@ -2,8 +2,8 @@
 use cleaning::prepare::link_program;
 use cleaning::root::root_place;
 use cleaning::rounds::clean_rounds;
-use cleaning::walks::calls_of;
 use index::Plan;
+use index::columns::room_of;
 use index::listing::fill;
 use output::left::mark_left;
 ghost use Prim.Native.Nat.{_<_, _≤_};
@@ -30,7 +30,7 @@ pub fn clean_listed(b: &[u8], work: &mut [u32], plan: Plan) -> Rounds
 {
     link_program(b, work, plan);
     let end = work.len();
-    fill(work, calls_of(plan) + 2 * plan.sites, end, 0);
+    fill(work, room_of(plan), end, 0);
     let root = root_place(b, work, plan.functions);
     let rounds = clean_rounds(b, work, plan, root);
     mark_left(work, plan);

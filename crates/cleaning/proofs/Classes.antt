@@ -71,9 +71,9 @@ module _ {b old new : List ℕ} {p : Plan} {w : Program} (l : Chains b w old p) 
         h;
   }
 
-  pub classes-next : (x : Function) → getElem? (w .functions) f ≡ some x → (r : ℕ) → r ≡ calls p → {next : List ℕ} → Classed (x .name) (sitesOf w) next (r + p .sites) → OnlyClasses (x .name) (sitesOf w) new next (r + p .sites) → ClassesWritten w old next p (f + 1)
+  pub classes-next : (x : Function) → getElem? (w .functions) f ≡ some x → (r : ℕ) → r ≡ links p → {next : List ℕ} → Classed (x .name) (sitesOf w) next r → OnlyClasses (x .name) (sitesOf w) new next r → ClassesWritten w old next p (f + 1)
   classes-next x e r h {next} c o =
-      classes-then x e next (subst (λ (k : ℕ). Classed (x .name) (sitesOf w) next (k + p .sites)) h c) (subst (λ (k : ℕ). OnlyClasses (x .name) (sitesOf w) new next (k + p .sites)) h o)
+      classes-then x e next (subst (Classed (x .name) (sitesOf w) next) h c) (subst (OnlyClasses (x .name) (sitesOf w) new next) h o)
 
 pub classes-none : (w : Program) (m : List ℕ) (p : Plan) → ClassesWritten w m m p 0
 classes-none w m p = record { length = refl; before = λ k h. refl; nexts = λ i. refl; classed = λ f x h e. absurd (omega arith) }

@@ -32,11 +32,11 @@ head-passed : (x : Sentence) (k : List ℕ) → drop 9 (putSentence x k) ≡ put
 unfolding putSentence putHead putSpan put32
 head-passed x k = refl
 
-module _ {b : List ℕ} {v : ℕ} {y : Sentence} (e : SentenceEntry b v y) (n : ℕ) (z : n ≡ v % 32768) where
-  pub pattern-stands : drop (n + 9) b ≡ putTerms (y .pattern) (putConditions (y .conditions) (12 ∷ putTerms (y .result) (e .stands .rest)))
+module _ {b : List ℕ} {v : ℕ} {y : Sentence} (e : SentenceEntry b v y) (n : ℕ) (z : n ≡ v % 32768 + 9) where
+  pub pattern-stands : drop n b ≡ putTerms (y .pattern) (putConditions (y .conditions) (12 ∷ putTerms (y .result) (e .stands .rest)))
   pattern-stands =
-      sym (drop-drop 9 n b)
-      ∙ ap (λ (k : ℕ). drop 9 (drop k b)) z
+      ap (λ (k : ℕ). drop k b) z
+      ∙ sym (drop-drop 9 (v % 32768) b)
       ∙ ap (drop 9) (e .stands .is)
       ∙ head-passed (e .stands .sentence) (e .stands .rest)
       ∙ ap (λ (q : Sentence). putTerms (q .pattern) (putConditions (q .conditions) (12 ∷ putTerms (q .result) (e .stands .rest)))) (e .is)
@@ -44,7 +44,7 @@ module _ {b : List ℕ} {v : ℕ} {y : Sentence} (e : SentenceEntry b v y) (n : 
   pub pattern-valid : ValidTerms (y .pattern) Mode.pattern 0
   pattern-valid = subst (λ (q : Sentence). ValidTerms (q .pattern) Mode.pattern 0) (e .is) (e .stands .valid-pattern)
 
-  abbrev pub pattern-there : TermsAt Mode.pattern (drop (n + 9) b)
+  abbrev pub pattern-there : TermsAt Mode.pattern (drop n b)
   pattern-there = record { terms = y .pattern; rest = putConditions (y .conditions) (12 ∷ putTerms (y .result) (e .stands .rest)); is = pattern-stands; valid = pattern-valid }
 
 -- ---- where the search begins

@@ -1,7 +1,8 @@
 // Work filled from a body: what no round can change.
-use crate::walks::calls_of;
 use index::Plan;
 use index::classes::class_list;
+use index::columns::calls_of;
+use index::columns::links_of;
 use index::links::link_sites;
 use index::links::share_heads;
 use index::listing::fill;
@@ -39,7 +40,7 @@ fn class_sites(b: &[u8], work: &mut [u32], plan: Plan)
     ensures { λ _. ⌜ ((w : Program) → Chains (now (b .entry)) w (now (work .entry)) plan → ClassesWritten w (now (work .entry)) (now (work .exit)) plan (plan .functions)) ⌝ }
 {
     let calls = calls_of(plan);
-    let links = calls + plan.sites;
+    let links = links_of(plan);
     let mut f = 0;
     while f < plan.functions {
         let head = head_site(work, plan.functions, f, true);

@@ -4,6 +4,8 @@ use crate::walks::is_judged;
 use crate::walks::is_there;
 use crate::walks::still_met;
 use index::Plan;
+use index::columns::lines_of;
+use index::columns::witnesses_of;
 ghost use mathlib.Core.Path.{_≡_};
 ghost use mathlib.Core.List.{List};
 ghost use mathlib.Core.Option.{some};
@@ -82,8 +84,8 @@ fn drop_sentence(work: &mut [u32], plan: Plan, s: usize, round: usize, before: b
     requires { ⌜ (s < plan .sentences) × (marks plan ≤ length (now work)) × (length (now work) ≤ 8192) × (plan .sites ≤ 8192) × (round < 4096) ⌝ }
     ensures { λ r. ⌜ SentenceDropped (now (work .entry)) (now (work .exit)) plan s round before r ⌝ }
 {
-    let k = 2 * plan.functions + s;
-    let d = 2 * plan.functions + plan.sentences + s;
+    let k = lines_of(plan) + s;
+    let d = witnesses_of(plan) + s;
     if fell(work, plan, s) == 0 {
         if work[d] as usize == plan.sites + 1 {
             work[k] = work[k] % 32768 + 32768 * (round as u32);

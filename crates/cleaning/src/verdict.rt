@@ -1,7 +1,8 @@
 // The verdict of a pattern and the argument of a site.
-use crate::walks::calls_of;
 use index::Plan;
 use index::classes::site_argument;
+use index::columns::calls_of;
+use index::columns::room_of;
 use overlap::Room;
 use overlap::patterns_verdict;
 use patterns::Verdict;
@@ -50,10 +51,9 @@ pub fn verdict_at(b: &[u8], work: &mut [u32], plan: Plan, pattern: usize, i: usi
     ensures answers { λ r. ⌜ ((w : Program) (f : ℕ) (x : Function) (y : Held) → Indexed (now (b .entry)) w (now (work .entry)) plan → getElem? (w .functions) f ≡ some x → getElem? (sitesOf w) i ≡ some y → isListed true (x .name) y ≡ true → (t : TermsAt Mode.pattern (drop pattern (now (b .entry)))) → r ≡ patternsOverlap (t .terms) (y .site .argument)) ⌝ }
     ensures keeps { λ _. ⌜ Used (now (b .entry)) plan (now (work .entry)) (now (work .exit)) ⌝ }
 {
-    let calls = calls_of(plan);
-    let k = calls + i;
+    let k = calls_of(plan) + i;
     let q = site_argument(b, work[k]);
-    let from = calls + 2 * plan.sites;
+    let from = room_of(plan);
     let lent = lent_for(b.len(), work.len() - from, plan);
     patterns_verdict(b, pattern, q, &mut work[from..], lent)
 }

@@ -1,10 +1,14 @@
 // Walks along a function's list of sites: which of them are there, and which a sentence meets.
 use crate::verdict::verdict_at;
 use index::Plan;
+use index::columns::calls_of;
+use index::columns::lines_of;
+use index::columns::links_of;
+use index::columns::pattern_place;
+use index::columns::witnesses_of;
 use index::table::class_of;
 use index::table::head_site;
 use index::table::next_site;
-use index::table::place_of;
 use index::table::sentence_of;
 use overlap::is_disjoint;
 ghost use mathlib.Core.Path.{_≡_};
@@ -34,7 +38,7 @@ pub fn fell(work: &[u32], plan: Plan, s: usize) -> usize
     requires { ⌜ (s < plan .sentences) × (marks plan ≤ length (now work)) × (length (now work) ≤ 8192) ⌝ }
     ensures { λ r. ⌜ (r ≡ fellOf plan (now (work .entry)) s) × (r < 4096) ⌝ }
 {
-    let k = 2 * plan.functions + s;
+    let k = lines_of(plan) + s;
     (work[k] / 32768 % 4096) as usize
 }
 
@@ -48,14 +52,6 @@ pub fn is_there(work: &[u32], plan: Plan, s: usize, round: usize) -> bool
         return true;
     }
     round <= k
-}
-
-// Where the sites' entries begin.
-pub fn calls_of(plan: Plan) -> usize
-    requires { ⌜ (plan .functions ≤ 32768) × (plan .sentences ≤ 32768) ⌝ }
-    ensures { λ r. ⌜ r ≡ calls plan ⌝ }
-{
-    2 * plan.functions + 2 * plan.sentences + (plan.sentences + 31) / 32
 }
 
 // Whether the site i is there when the round begins: as long as its sentence is.
@@ -72,7 +68,7 @@ pub fn first_there(work: &[u32], plan: Plan, i: usize, round: usize) -> usize
     requires { ⌜ SomeWalk (now work) plan i ⌝ }
     ensures { λ r. ⌜ ((kind : Bool) (f : Name) (sites : List Held) (q : ℕ) → Walkable kind f sites (now (work .entry)) plan → First (isListed kind f) q sites i → First (isThereListed (isThere (fellOf plan (now (work .entry))) round) kind f) q sites r) ⌝ }
 {
-    let links = calls_of(plan) + plan.sites;
+    let links = links_of(plan);
     let mut j = i;
     while j < plan.sites {
         if site_there(work, plan, j, round) {
@@ -106,7 +102,7 @@ fn is_met(b: &[u8], work: &mut [u32], plan: Plan, pattern: usize, i: usize, roun
     if !site_there(work, plan, i, round) {
         return false;
     }
-    let c = class_of(work, calls_of(plan) + plan.sites, i);
+    let c = class_of(work, links_of(plan), i);
     if c < i {
         if site_there(work, plan, c, round) {
             return false;
@@ -128,7 +124,7 @@ fn meeting_from(
     ensures met { λ r. ⌜ ((w : Program) (f : ℕ) (x : Function) → Indexed (now (b .entry)) w (now (work .entry)) plan → getElem? (w .functions) f ≡ some x → OnList (x .name) (sitesOf w) i → (t : TermsAt Mode.pattern (drop pattern (now (b .entry)))) → NoneMet (isThere (fellOf plan (now (work .entry))) round) (x .name) (t .terms) (sitesOf w) i → First (meets (isThere (fellOf plan (now (work .entry))) round) (x .name) (t .terms)) 0 (sitesOf w) r) ⌝ }
     ensures keeps { λ _. ⌜ Used (now (b .entry)) plan (now (work .entry)) (now (work .exit)) ⌝ }
 {
-    let links = calls_of(plan) + plan.sites;
+    let links = links_of(plan);
     let mut j = i;
     while j < plan.sites {
         if is_met(b, work, plan, pattern, j, round) {
@@ -144,7 +140,7 @@ pub fn witness_of(work: &[u32], plan: Plan, f: usize, s: usize) -> usize
     requires { ⌜ (f < plan .functions) × (s < plan .sentences) × (room plan ≤ length (now work)) × (length (now work) ≤ 8192) ⌝ }
     ensures { λ r. ⌜ r ≡ witnessFrom (getD (now (work .entry)) (witnesses plan + s) 0) (listHead true (getD (now (work .entry)) (heads plan + f) 0)) ⌝ }
 {
-    let k = 2 * plan.functions + plan.sentences + s;
+    let k = witnesses_of(plan) + s;
     let d = work[k] as usize;
     if d == 0 {
         return head_site(work, plan.functions, f, true);
@@ -160,7 +156,7 @@ pub fn still_met(b: &[u8], work: &mut [u32], plan: Plan, f: usize, s: usize, rou
     ensures others { λ r. ⌜ OneColumn plan (now (work .entry)) (now (work .exit)) (witnesses plan + s) ⌝ }
     ensures remembers { λ _. ⌜ Remembering (now (b .entry)) plan (now (work .exit)) ⌝ }
 {
-    let k = 2 * plan.functions + plan.sentences + s;
+    let k = witnesses_of(plan) + s;
     let i = witness_of(work, plan, f, s);
     if plan.sites <= i {
         work[k] = plan.sites as u32 + 1;
@@ -171,7 +167,7 @@ pub fn still_met(b: &[u8], work: &mut [u32], plan: Plan, f: usize, s: usize, rou
             return true;
         }
     }
-    let pattern = place_of(work, 2 * plan.functions + s) + 9;
+    let pattern = pattern_place(work, plan, s);
     let next = meeting_from(b, work, plan, pattern, i, round);
     work[k] = next as u32 + 1;
     next < plan.sites

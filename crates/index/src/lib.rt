@@ -1,5 +1,6 @@
 // Functions, sentences and call sites as entries of work: what no round can change.
 pub mod classes;
+pub mod columns;
 pub mod dispatch;
 pub mod links;
 pub mod listing;

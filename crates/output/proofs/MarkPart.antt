@@ -149,15 +149,15 @@ left-turn p start old new s l a h t j = by (eqb j s) refl
         t .1 j n ∙ (h j ∙ ap (λ (u : Bool). ltb j (p .sentences) && (not u || eqb (fellOf p start j) 0)) (ltb-next j s n))
 
 -- The part has a word for every 32 sentences.
-pub keep-ready : (p : Plan) (m : List ℕ) (end : ℕ) → end ≡ calls p → room p ≤ length m → length m ≤ 8192
-    → (length (midOf (marks p) (end - marks p) m) ≤ 32768) × (p .sentences ≤ 32 * length (midOf (marks p) (end - marks p) m))
-keep-ready p m end b h k =
-    let n = mid-len (marks p) end m (omega (arith, b, h)) in
-    (omega (arith, n, b, h, k), omega (arith, n, b))
+pub keep-ready : (p : Plan) (m : List ℕ) (from end : ℕ) → from ≡ marks p → end ≡ calls p → room p ≤ length m → length m ≤ 8192
+    → (length (midOf from (end - from) m) ≤ 32768) × (p .sentences ≤ 32 * length (midOf from (end - from) m))
+keep-ready p m from end a b h k =
+    let n = mid-len from end m (omega (arith, b, h)) in
+    (omega (arith, n, a, b, h, k), omega (arith, n, a, b))
 
-pub left-start : (p : Plan) (old ys : List ℕ) (end : ℕ) → end ≡ calls p → room p ≤ length old → length ys ≡ length (midOf (marks p) (end - marks p) old)
-    → ((i : ℕ) → isKept ys i ≡ ltb i (p .sentences)) → (j : ℕ) → isKept (marked p (putMid (marks p) (end - marks p) old ys)) j ≡ leftTo (p .sentences) (fellOf p (putMid (marks p) (end - marks p) old ys)) 0 j
-left-start p old ys end b h n e j = ap (λ (l : List ℕ). isKept l j) (marked-back p old ys (marks p) end refl b (omega (arith, h)) n) ∙ (e j ∙ left-none (p .sentences) (fellOf p (putMid (marks p) (end - marks p) old ys)) j)
+pub left-start : (p : Plan) (old ys : List ℕ) (from end : ℕ) → from ≡ marks p → end ≡ calls p → room p ≤ length old → length ys ≡ length (midOf from (end - from) old)
+    → ((i : ℕ) → isKept ys i ≡ ltb i (p .sentences)) → (j : ℕ) → isKept (marked p (putMid from (end - from) old ys)) j ≡ leftTo (p .sentences) (fellOf p (putMid from (end - from) old ys)) 0 j
+left-start p old ys from end a b h n e j = ap (λ (l : List ℕ). isKept l j) (marked-back p old ys from end a b (omega (arith, h)) n) ∙ (e j ∙ left-none (p .sentences) (fellOf p (putMid from (end - from) old ys)) j)
 
 pub left-done : (p : Plan) (start old new : List ℕ) (s : ℕ) → Apart start old (marks p) (calls p) → Apart old new (marks p) (calls p) → ((j : ℕ) → isKept (marked p new) j ≡ leftTo (p .sentences) (fellOf p old) s j) → s ≡ p .sentences
     → ((j : ℕ) → isKept (marked p new) j ≡ (ltb j (p .sentences) && eqb (fellOf p start j) 0)) × Apart start new (marks p) (calls p)

@@ -1,9 +1,10 @@
 // The kept marks of the sentences that never fell.
 use crate::mark::clear_mark;
 use crate::mark::keep_all;
-use cleaning::walks::calls_of;
 use cleaning::walks::fell;
 use index::Plan;
+use index::columns::calls_of;
+use index::columns::marks_of;
 ghost use mathlib.Core.Path.{_≡_};
 ghost use mathlib.Core.Bool.{_&&_};
 ghost use Prim.Native.Nat.{ℕ, _-_, _<_, _≤_};
@@ -32,7 +33,7 @@ pub fn mark_left(work: &mut [u32], plan: Plan)
     ensures marked { λ _. ⌜ ((s : ℕ) → isKept (take (calls plan - marks plan) (drop (marks plan) (now (work .exit)))) s ≡ (ltb s (plan .sentences) && eqb (fellOf plan (now (work .entry)) s) 0)) ⌝ }
     ensures others { λ _. ⌜ Apart (now (work .entry)) (now (work .exit)) (marks plan) (calls plan) ⌝ }
 {
-    let from = 2 * plan.functions + 2 * plan.sentences;
+    let from = marks_of(plan);
     let end = calls_of(plan);
     keep_all(&mut work[from..end], plan.sentences);
     let mut s = 0;

@@ -78,7 +78,7 @@ module _ {b : List ℕ} {w : Program} {m : List ℕ} {p : Plan} (d : Readable b 
   functions-fit =
       own-fit (w .functions)
       (each-at (λ x. Fits (x .name)) (w .functions) (λ f x e. omega (arith, named-fits (named-at d f x e (getD m f 0 % 32768) refl), d .short)))
-      (each-at PatternFits (ownSentences (w .functions)) (λ s y e. pattern-fits d s y e (getD m (lines p + s) 0 % 32768) refl))
+      (each-at PatternFits (ownSentences (w .functions)) (λ s y e. pattern-fits d s y e (getD m (lines p + s) 0 % 32768 + 9) refl))
 
   pub sites-fit : AtMost HeldFits (p .sites) (sitesOf w)
   sites-fit = record {

@@ -55,12 +55,12 @@ module _ {b : List ℕ} {w : Program} {m : List ℕ} {p : Plan} (d : Readable b 
       let k : 0 + f ≡ f = omega arith in
       subst (λ (q : ℕ). NamedAt b q (x .name)) (sym (z ∙ ap (λ (i : ℕ). getD m i 0 % 32768) (sym k))) (record { stands = g .stands; is = ap (λ (y : Function). y .name) (g .is) })
 
-  module _ (s : ℕ) (y : Sentence) (e : getElem? (ownSentences (w .functions)) s ≡ some y) (n : ℕ) (z : n ≡ getD m (lines p + s) 0 % 32768) where
-    abbrev pub pattern-at : TermsAt Mode.pattern (drop (n + 9) b)
+  module _ (s : ℕ) (y : Sentence) (e : getElem? (ownSentences (w .functions)) s ≡ some y) (n : ℕ) (z : n ≡ getD m (lines p + s) 0 % 32768 + 9) where
+    abbrev pub pattern-at : TermsAt Mode.pattern (drop n b)
     pattern-at = pattern-there (d .indexed .sentence .entry s y e) n z
 
     pub pattern-fits : length (formatTerms (y .pattern)) ≤ 32768
-    pattern-fits = omega (arith, terms-text-fits (pattern-part b (n + 9) pattern-at), part-length b (n + 9), d .short)
+    pattern-fits = omega (arith, terms-text-fits (pattern-part b n pattern-at), part-length b n, d .short)
 
 pub readable-part : {b : List ℕ} {w : Program} {m : List ℕ} {p : Plan} → Readable b w m p → (n : ℕ) → length (part b n) ≤ 32768
 readable-part {b} d n = omega (arith, part-length b n, d .short)

@@ -7,7 +7,7 @@ use mathlib.Core.List.{List}
 use lib.ListN.{getD}
 use Rattle.program.specs.Syntax.{Program}
 use Rattle.index.specs.declared.Plan.{Plan}
-use Rattle.index.specs.Layout.{witnesses, calls, links}
+use Rattle.index.specs.Layout.{witnesses, links}
 use Rattle.index.specs.Links.{entryNext}
 use Rattle.told.specs.History.{isThere, afterAll, Told}
 use Rattle.cleaning.specs.Indexed.{fellOf}
@@ -31,8 +31,8 @@ module _ {b : List ℕ} {p : Plan} {old new : List ℕ} (u : Used b p old new) w
   used-keep r = ap (λ (f : ℕ → ℕ). isThere f r) (used-fell u)
 
   -- The next of the list of a site, where `next_site` says.
-  pub used-next : (from i : ℕ) → from ≡ calls p → i < p .sites → (v : ℕ) → v ≡ entryNext (getD new (from + p .sites + i) 0) → v ≡ entryNext (getD old (links p + i) 0)
-  used-next from i e h v z = z ∙ (ap (λ (k : ℕ). entryNext (getD new (k + p .sites + i) 0)) e ∙ ap entryNext (u .columns (links p + i) (omega arith)))
+  pub used-next : (from i : ℕ) → from ≡ links p → i < p .sites → (v : ℕ) → v ≡ entryNext (getD new (from + i) 0) → v ≡ entryNext (getD old (links p + i) 0)
+  used-next from i e h v z = z ∙ (ap (λ (k : ℕ). entryNext (getD new (k + i) 0)) e ∙ ap entryNext (u .columns (links p + i) (omega arith)))
 
   pub used-readable : {w : Program} → Readable b w old p → Readable b w new p
   used-readable {w} d = record {

@@ -1,6 +1,7 @@
 // Whether two functions have the same name, and two sentences the same text.
 use compare::same_text;
 use index::Plan;
+use index::columns::pattern_place;
 use index::names::function_name;
 use index::table::head_site;
 use index::table::place_of;
@@ -53,7 +54,7 @@ pub fn same_pattern(b: &[u8], work: &[u32], plan: Plan, s: usize, t: usize) -> b
     requires { ⌜ SomeReadable (now b) (now work) plan × (s < plan .sentences) × (t < plan .sentences) ⌝ }
     ensures { λ r. ⌜ ((w : Program) (x y : Sentence) → Readable (now (b .entry)) w (now (work .entry)) plan → getElem? (ownSentences (w .functions)) s ≡ some x → getElem? (ownSentences (w .functions)) t ≡ some y → r ≡ eqBytes (formatTerms (x .pattern)) (formatTerms (y .pattern))) ⌝ }
 {
-    let p = place_of(work, 2 * plan.functions + s) + 9;
-    let q = place_of(work, 2 * plan.functions + t) + 9;
+    let p = pattern_place(work, plan, s);
+    let q = pattern_place(work, plan, t);
     same_text(&b[p..], &b[q..])
 }

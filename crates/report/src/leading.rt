@@ -1,8 +1,9 @@
 // The restrictions of a function when a round begins, one after another.
-use cleaning::walks::calls_of;
 use cleaning::walks::site_there;
 use index::Plan;
 use index::classes::site_argument;
+use index::columns::calls_of;
+use index::columns::links_of;
 use index::table::class_of;
 use index::table::head_site;
 use index::table::next_site;
@@ -33,7 +34,7 @@ fn is_of_class(work: &[u32], plan: Plan, j: usize, c: usize, round: usize) -> bo
     requires { ⌜ (j < plan .sites) × (room plan ≤ length (now work)) × (length (now work) ≤ 8192) × (entrySentence (getD (now work) (calls plan + j) 0) < plan .sentences) ⌝ }
     ensures { λ r. ⌜ r ≡ (eqb (entryClass (getD (now (work .entry)) (links plan + j) 0)) c && isThere (fellOf plan (now (work .entry))) round (entrySentence (getD (now (work .entry)) (calls plan + j) 0))) ⌝ }
 {
-    let at = calls_of(plan) + plan.sites;
+    let at = links_of(plan);
     if class_of(work, at, j) != c {
         return false;
     }
@@ -48,7 +49,7 @@ pub fn leads(work: &[u32], plan: Plan, i: usize, round: usize) -> bool
     if !site_there(work, plan, i, round) {
         return false;
     }
-    let links = calls_of(plan) + plan.sites;
+    let links = links_of(plan);
     let c = class_of(work, links, i);
     let mut j = c;
     while j < i {
@@ -108,7 +109,7 @@ pub fn put_restrictions(
     ensures written { λ r. ⌜ ((w : Program) (x : Function) → Readable (now (b .entry)) w (now (work .entry)) plan → getElem? (w .functions) f ≡ some x → Emitted (now (out .entry)) at (flatMap angledAfter (restrictionsAt (isThere (fellOf plan (now (work .entry))) round) (x .name) (sitesOf w))) r (now (out .exit))) ⌝ }
     ensures short { λ r. ⌜ r ≤ at + 8192 * 32800 ⌝ }
 {
-    let links = calls_of(plan) + plan.sites;
+    let links = links_of(plan);
     let mut i = head_site(work, plan.functions, f, true);
     let mut place = at;
     while i < plan.sites {

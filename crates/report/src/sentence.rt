@@ -1,6 +1,7 @@
 // The beginning of a line about a sentence.
 use image::part::name_part;
 use index::Plan;
+use index::columns::pattern_place;
 use index::table::place_of;
 use text::emit::put_byte;
 use text::emit::put_bytes;
@@ -32,7 +33,7 @@ pub fn put_pattern(b: &[u8], work: &[u32], plan: Plan, s: usize, out: &mut [u8],
     ensures written { λ r. ⌜ ((w : Program) (y : Sentence) → Readable (now (b .entry)) w (now (work .entry)) plan → getElem? (ownSentences (w .functions)) s ≡ some y → Emitted (now (out .entry)) at (formatTerms (y .pattern)) r (now (out .exit))) ⌝ }
     ensures short { λ r. ⌜ r ≤ at + 32768 ⌝ }
 {
-    let p = place_of(work, 2 * plan.functions + s) + 9;
+    let p = pattern_place(work, plan, s);
     format_terms(out, at, &b[p..])
 }
 

@@ -6,15 +6,17 @@ use crate::sentence::put_name;
 use crate::undecided::Listed;
 use cleaning::rounds::first_sentence;
 use cleaning::verdict::verdict_at;
-use cleaning::walks::calls_of;
 use cleaning::walks::is_judged;
 use cleaning::walks::is_there;
 use compare::same_text;
 use index::Plan;
 use index::classes::site_argument;
+use index::columns::calls_of;
+use index::columns::links_of;
+use index::columns::pattern_place;
+use index::columns::witnesses_of;
 use index::table::head_site;
 use index::table::next_site;
-use index::table::place_of;
 use overlap::is_disjoint;
 use text::emit::put_byte;
 use text::emit::put_bytes;
@@ -66,7 +68,7 @@ fn covers(b: &[u8], work: &mut [u32], plan: Plan, s: usize, i: usize) -> bool
     if !is_there(work, plan, s, AFTER_ALL) {
         return false;
     }
-    let k = 2 * plan.functions + plan.sentences + s;
+    let k = witnesses_of(plan) + s;
     let witness = work[k] as usize;
     if i + 1 < witness {
         return false;
@@ -74,7 +76,7 @@ fn covers(b: &[u8], work: &mut [u32], plan: Plan, s: usize, i: usize) -> bool
     if i + 1 == witness {
         return true;
     }
-    let pattern = place_of(work, 2 * plan.functions + s) + 9;
+    let pattern = pattern_place(work, plan, s);
     !is_disjoint(verdict_at(b, work, plan, pattern, i))
 }
 
@@ -210,7 +212,7 @@ fn put_uncovered_in(
     ensures short { λ r. ⌜ (r .at ≤ listed .at + 8192 * 80000) × (r .count ≤ r .at) × (r .function ≤ f) ⌝ }
     ensures keeps { λ _. ⌜ Used (now (b .entry)) plan (now (work .entry)) (now (work .exit)) ⌝ }
 {
-    let links = calls_of(plan) + plan.sites;
+    let links = links_of(plan);
     let mut i = head_site(work, plan.functions, f, true);
     let mut last = listed;
     while i < plan.sites {

@@ -5,14 +5,14 @@ use crate::alike::same_pattern;
 use crate::sentence::put_sentence;
 use cleaning::rounds::first_sentence;
 use cleaning::verdict::verdict_at;
-use cleaning::walks::calls_of;
 use cleaning::walks::is_judged;
 use cleaning::walks::is_there;
 use cleaning::walks::site_there;
 use cleaning::walks::witness_of;
 use index::Plan;
+use index::columns::links_of;
+use index::columns::pattern_place;
 use index::table::next_site;
-use index::table::place_of;
 use overlap::is_overlap;
 use text::emit::put_byte;
 ghost use mathlib.Core.Path.{_≡_};
@@ -74,8 +74,8 @@ fn is_decided(b: &[u8], work: &mut [u32], plan: Plan, f: usize, s: usize) -> boo
     ensures answers { λ r. ⌜ ((w : Program) (x : Function) (y : Sentence) → Readable (now (b .entry)) w (now (work .entry)) plan → Owns w f x s y → r ≡ any (overlaps (isThere (fellOf plan (now (work .entry))) afterAll) (x .name) (y .pattern)) (sitesOf w)) ⌝ }
     ensures keeps { λ _. ⌜ Used (now (b .entry)) plan (now (work .entry)) (now (work .exit)) ⌝ }
 {
-    let pattern = place_of(work, 2 * plan.functions + s) + 9;
-    let links = calls_of(plan) + plan.sites;
+    let pattern = pattern_place(work, plan, s);
+    let links = links_of(plan);
     let mut i = witness_of(work, plan, f, s);
     while i < plan.sites {
         if overlaps_at(b, work, plan, pattern, i, AFTER_ALL) {

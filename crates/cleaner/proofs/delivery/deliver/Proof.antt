@@ -24,14 +24,8 @@ sub-n c = omega (arith, accepted-long (now (c .before .before .before .before .a
 slice-aggregate-b : tie.Need-slice-aggregate-b
 slice-aggregate-b c = sym (length-take-le _ (now (c .before .before .before .before .before .args .img)) (omega arith))
 
-mul-from : tie.Need-mul-from
-mul-from c = search needs
-
-mul-from-2 : tie.Need-mul-from-2
-mul-from-2 c = search needs
-
-add-from : tie.Need-add-from
-add-from c = search needs
+marks-of-requires : tie.Need-marks-of-requires
+marks-of-requires c κs = search needs
 
 calls-of-requires : tie.Need-calls-of-requires
 calls-of-requires c κs = search needs
@@ -59,9 +53,9 @@ slice-aggregate-count-lists c = search needs
 
 count-lists-requires : tie.Need-count-lists-requires
 count-lists-requires c κs =
-    let x = c .before .before .before .before .before .before .before .before .before .before .before .before .before .pre .0 in
-    let q = marks-are (c .before .before .before .before .before .before .before .before .before .before .before .before .before .args .work .now) (c .before .before .before .before .before .before .before .before .before .before .before .before .before .args .plan) (c .before .before .before .before .before .calls-of .ensures) in
-    (record { program = x .accepted .program; removing = x .delivery .removing }, x .few, omega (arith, c .before .before .count-ones .ensures (x .accepted .program .functions) (none-from (x .accepted) (c .before .before .before .before .before .before .before .before .before .before .before .before .before .args .plan) (x .delivery) q), after-few (x .accepted) (c .before .before .before .before .before .before .before .before .before .before .before .before .before .args .plan) (x .delivery) q, sentences-few (x .accepted) (c .before .before .before .before .before .before .before .before .before .before .before .before .before .args .plan) (x .delivery) q), c .before .before .before .before .before .before .before .before .before .before .before .before .before .pre .2)
+    let x = c .before .before .before .before .before .before .before .before .before .before .before .before .pre .0 in
+    let q = marks-are (c .before .before .before .before .before .before .before .before .before .before .before .before .args .work .now) (c .before .before .before .before .before .before .before .before .before .before .before .before .args .plan) (c .before .before .before .before .before .before .marks-of .ensures) (c .before .before .before .before .before .calls-of .ensures) in
+    (record { program = x .accepted .program; removing = x .delivery .removing }, x .few, omega (arith, c .before .before .count-ones .ensures (x .accepted .program .functions) (none-from (x .accepted) (c .before .before .before .before .before .before .before .before .before .before .before .before .args .plan) (x .delivery) q), after-few (x .accepted) (c .before .before .before .before .before .before .before .before .before .before .before .before .args .plan) (x .delivery) q, sentences-few (x .accepted) (c .before .before .before .before .before .before .before .before .before .before .before .before .args .plan) (x .delivery) q), c .before .before .before .before .before .before .before .before .before .before .before .before .pre .2)
 
 slice-relend-prefix-measure-clean-report : tie.Need-slice-relend-prefix-measure-clean-report
 slice-relend-prefix-measure-clean-report c = search needs
@@ -71,10 +65,10 @@ slice-aggregate-measure-clean-report c = search needs
 
 measure-clean-report-requires : tie.Need-measure-clean-report-requires
 measure-clean-report-requires c κs =
-    let x = (c .before .before .before .before .before .before .before .before .before .before .before .before .before .before .before .before .before .before .before .before) .pre .0 in
+    let x = (c .before .before .before .before .before .before .before .before .before .before .before .before .before .before .before .before .before .before .before) .pre .0 in
     let d = x .delivery in
-    let q = marks-are ((c .before .before .before .before .before .before .before .before .before .before .before .before .before .before .before .before .before .before .before .before) .args .work .now) ((c .before .before .before .before .before .before .before .before .before .before .before .before .before .before .before .before .before .before .before .before) .args .plan) ((c .before .before .before .before .before .before .before .before .before .before .before .before) .calls-of .ensures) in
-    let e = (c .before .before .before .before .before .before .before .before .before) .count-ones .ensures (x .accepted .program .functions) (none-from (x .accepted) ((c .before .before .before .before .before .before .before .before .before .before .before .before .before .before .before .before .before .before .before .before) .args .plan) d q) ∙ after-told (x .accepted) ((c .before .before .before .before .before .before .before .before .before .before .before .before .before .before .before .before .before .before .before .before) .args .plan) d q in
+    let q = marks-are ((c .before .before .before .before .before .before .before .before .before .before .before .before .before .before .before .before .before .before .before) .args .work .now) ((c .before .before .before .before .before .before .before .before .before .before .before .before .before .before .before .before .before .before .before) .args .plan) ((c .before .before .before .before .before .before .before .before .before .before .before .before .before) .marks-of .ensures) ((c .before .before .before .before .before .before .before .before .before .before .before .before) .calls-of .ensures) in
+    let e = (c .before .before .before .before .before .before .before .before .before) .count-ones .ensures (x .accepted .program .functions) (none-from (x .accepted) ((c .before .before .before .before .before .before .before .before .before .before .before .before .before .before .before .before .before .before .before) .args .plan) d q) ∙ after-told (x .accepted) ((c .before .before .before .before .before .before .before .before .before .before .before .before .before .before .before .before .before .before .before) .args .plan) d q in
     let u = (c .before .before .before .before .before .before) .count-lists .ensures .1 .1 in
     (record { program = x .accepted .program; reporting = used-reporting u (record { removing = d .removing; figures = (c .before .before .before .before .before .before) .count-lists .ensures .0 (x .accepted .program) (d .removing) e (d .root-is) .0 }); few = (c .before .before .before .before .before .before) .count-lists .ensures .1 .0 }, x .few, refl)
 
@@ -90,9 +84,9 @@ same-length-2 c = search needs
 returns : tie.Need-returns
 returns c = (
   λ a d.
-      let g = (c .before .before .before .before .before .before .before .before .before .before .before .before .before .before .before .before .before .before .before .before .before .before .before .before .before) .args in
-      let few = (c .before .before .before .before .before .before .before .before .before .before .before .before .before .before .before .before .before .before .before .before .before .before .before .before .before) .pre .0 .few in
-      let q = marks-are (g .work .now) (g .plan) ((c .before .before .before .before .before .before .before .before .before .before .before .before .before .before .before .before .before) .calls-of .ensures) in
+      let g = (c .before .before .before .before .before .before .before .before .before .before .before .before .before .before .before .before .before .before .before .before .before .before .before .before) .args in
+      let few = (c .before .before .before .before .before .before .before .before .before .before .before .before .before .before .before .before .before .before .before .before .before .before .before .before) .pre .0 .few in
+      let q = marks-are (g .work .now) (g .plan) ((c .before .before .before .before .before .before .before .before .before .before .before .before .before .before .before .before .before .before) .marks-of .ensures) ((c .before .before .before .before .before .before .before .before .before .before .before .before .before .before .before .before .before) .calls-of .ensures) in
       let e = (c .before .before .before .before .before .before .before .before .before .before .before .before .before .before) .count-ones .ensures (a .program .functions) (none-from a (g .plan) d q) ∙ after-told a (g .plan) d q in
       let f = (c .before .before .before .before .before .before .before .before .before .before .before) .count-lists .ensures .0 (a .program) (d .removing) e (d .root-is) in
       let u = (c .before .before .before .before .before .before .before .before .before .before .before) .count-lists .ensures .1 .1 in
@@ -105,27 +99,27 @@ returns c = (
 
 format-clean-report-requires : tie.Need-format-clean-report-requires
 format-clean-report-requires c κs =
-    let x = (c .before .before .before .before .before .before .before .before .before .before .before .before .before .before .before .before .before .before .before .before .before .before .before .before .before .before) .pre .0 in
+    let x = (c .before .before .before .before .before .before .before .before .before .before .before .before .before .before .before .before .before .before .before .before .before .before .before .before .before) .pre .0 in
     let d = x .delivery in
-    let q = marks-are ((c .before .before .before .before .before .before .before .before .before .before .before .before .before .before .before .before .before .before .before .before .before .before .before .before .before .before) .args .work .now) ((c .before .before .before .before .before .before .before .before .before .before .before .before .before .before .before .before .before .before .before .before .before .before .before .before .before .before) .args .plan) ((c .before .before .before .before .before .before .before .before .before .before .before .before .before .before .before .before .before .before) .calls-of .ensures) in
-    let e = (c .before .before .before .before .before .before .before .before .before .before .before .before .before .before .before) .count-ones .ensures (x .accepted .program .functions) (none-from (x .accepted) ((c .before .before .before .before .before .before .before .before .before .before .before .before .before .before .before .before .before .before .before .before .before .before .before .before .before .before) .args .plan) d q) ∙ after-told (x .accepted) ((c .before .before .before .before .before .before .before .before .before .before .before .before .before .before .before .before .before .before .before .before .before .before .before .before .before .before) .args .plan) d q in
+    let q = marks-are ((c .before .before .before .before .before .before .before .before .before .before .before .before .before .before .before .before .before .before .before .before .before .before .before .before .before) .args .work .now) ((c .before .before .before .before .before .before .before .before .before .before .before .before .before .before .before .before .before .before .before .before .before .before .before .before .before) .args .plan) ((c .before .before .before .before .before .before .before .before .before .before .before .before .before .before .before .before .before .before .before) .marks-of .ensures) ((c .before .before .before .before .before .before .before .before .before .before .before .before .before .before .before .before .before .before) .calls-of .ensures) in
+    let e = (c .before .before .before .before .before .before .before .before .before .before .before .before .before .before .before) .count-ones .ensures (x .accepted .program .functions) (none-from (x .accepted) ((c .before .before .before .before .before .before .before .before .before .before .before .before .before .before .before .before .before .before .before .before .before .before .before .before .before) .args .plan) d q) ∙ after-told (x .accepted) ((c .before .before .before .before .before .before .before .before .before .before .before .before .before .before .before .before .before .before .before .before .before .before .before .before .before) .args .plan) d q in
     let u = (c .before .before .before .before .before .before .before .before .before .before .before .before) .count-lists .ensures .1 .1 in
     (record { program = x .accepted .program; reporting = used-reporting u (record { removing = d .removing; figures = (c .before .before .before .before .before .before .before .before .before .before .before .before) .count-lists .ensures .0 (x .accepted .program) (d .removing) e (d .root-is) .0 }); few = (c .before .before .before .before .before .before .before .before .before .before .before .before) .count-lists .ensures .1 .0 }, x .few, u .remembers)
 
 mul-write-kept : tie.Need-mul-write-kept
-mul-write-kept c = let x = (c .before .before .before .before .before .before .before .before .before .before .before .before .before .before .before .before .before .before .before .before .before .before .before .before .before .before .before .before .before .before .before) .pre .0 .delivery .removing .readable .indexed in record { fits = omega (arith, x .fits, x .small) }
+mul-write-kept c = let x = (c .before .before .before .before .before .before .before .before .before .before .before .before .before .before .before .before .before .before .before .before .before .before .before .before .before .before .before .before .before .before) .pre .0 .delivery .removing .readable .indexed in record { fits = omega (arith, x .fits, x .small, (c .before .before .before .before .before .before .before .before .before .before .before .before .before .before .before .before .before .before .before .before .before .before .before .before) .marks-of .ensures) }
 
 sub-write-kept : tie.Need-sub-write-kept
-sub-write-kept c = omega (arith, (c .before .before .before .before .before .before .before .before .before .before .before .before .before .before .before .before .before .before .before .before .before .before .before) .calls-of .ensures)
+sub-write-kept c = omega (arith, (c .before .before .before .before .before .before .before .before .before .before .before .before .before .before .before .before .before .before .before .before .before .before .before) .calls-of .ensures, (c .before .before .before .before .before .before .before .before .before .before .before .before .before .before .before .before .before .before .before .before .before .before .before .before) .marks-of .ensures)
 
 part-write-kept-start : tie.Need-part-write-kept-start
-part-write-kept-start c = omega (arith, (c .before .before .before .before .before .before .before .before .before .before .before .before .before .before .before .before .before .before .before .before .before .before .before .before) .calls-of .ensures)
+part-write-kept-start c = omega (arith, (c .before .before .before .before .before .before .before .before .before .before .before .before .before .before .before .before .before .before .before .before .before .before .before .before) .calls-of .ensures, (c .before .before .before .before .before .before .before .before .before .before .before .before .before .before .before .before .before .before .before .before .before .before .before .before .before) .marks-of .ensures)
 
 part-write-kept-end : tie.Need-part-write-kept-end
-part-write-kept-end c = omega (arith, (c .before .before .before .before .before .before .before .before .before .before .before .before .before .before .before .before .before .before .before .before .before .before .before .before) .calls-of .ensures, (c .before .before .before .before .before .before .before .before .before .before .before .before .before .before .before .before .before .before .before .before .before .before .before .before .before .before .before .before .before .before .before .before) .pre .0 .delivery .removing .readable .indexed .fits, (c .before .before .before .before .before .before .before .before .before .before .before .before .before .before .before .before .before .before) .count-lists .ensures .1 .1 .length, (c .before .before .before .before .before) .format-clean-report .ensures .1 .length)
+part-write-kept-end c = omega (arith, (c .before .before .before .before .before .before .before .before .before .before .before .before .before .before .before .before .before .before .before .before .before .before .before .before) .calls-of .ensures, (c .before .before .before .before .before .before .before .before .before .before .before .before .before .before .before .before .before .before .before .before .before .before .before .before .before) .marks-of .ensures, (c .before .before .before .before .before .before .before .before .before .before .before .before .before .before .before .before .before .before .before .before .before .before .before .before .before .before .before .before .before .before .before) .pre .0 .delivery .removing .readable .indexed .fits, (c .before .before .before .before .before .before .before .before .before .before .before .before .before .before .before .before .before .before) .count-lists .ensures .1 .1 .length, (c .before .before .before .before .before) .format-clean-report .ensures .1 .length)
 
 write-kept-requires : tie.Need-write-kept-requires
-write-kept-requires c κs = ((c .before .before .before .before .before .before .before .before .before .before .before .before .before .before .before .before .before .before .before .before .before .before .before .before .before .before .before .before .before .before .before .before .before .before) .pre .0 .accepted, (c .before .before .before .before .before .before .before .before .before .before .before .before .before .before .before .before .before .before .before .before .before .before .before .before .before .before .before .before .before .before .before .before .before .before) .pre .1)
+write-kept-requires c κs = ((c .before .before .before .before .before .before .before .before .before .before .before .before .before .before .before .before .before .before .before .before .before .before .before .before .before .before .before .before .before .before .before .before .before) .pre .0 .accepted, (c .before .before .before .before .before .before .before .before .before .before .before .before .before .before .before .before .before .before .before .before .before .before .before .before .before .before .before .before .before .before .before .before .before) .pre .1)
 
 same-length-3 : tie.Need-same-length-3
 same-length-3 c = search needs
@@ -139,9 +133,9 @@ same-length-5 c = search needs
 returns-2 : tie.Need-returns-2
 returns-2 c = (
   λ a d.
-      let g = (c .before .before .before .before .before .before .before .before .before .before .before .before .before .before .before .before .before .before .before .before .before .before .before .before .before .before .before .before .before .before .before .before .before .before .before .before .before) .args in
-      let few = (c .before .before .before .before .before .before .before .before .before .before .before .before .before .before .before .before .before .before .before .before .before .before .before .before .before .before .before .before .before .before .before .before .before .before .before .before .before) .pre .0 .few in
-      let q = marks-are (g .work .now) (g .plan) ((c .before .before .before .before .before .before .before .before .before .before .before .before .before .before .before .before .before .before .before .before .before .before .before .before .before .before .before .before .before) .calls-of .ensures) in
+      let g = (c .before .before .before .before .before .before .before .before .before .before .before .before .before .before .before .before .before .before .before .before .before .before .before .before .before .before .before .before .before .before .before .before .before .before .before .before) .args in
+      let few = (c .before .before .before .before .before .before .before .before .before .before .before .before .before .before .before .before .before .before .before .before .before .before .before .before .before .before .before .before .before .before .before .before .before .before .before .before) .pre .0 .few in
+      let q = marks-are (g .work .now) (g .plan) ((c .before .before .before .before .before .before .before .before .before .before .before .before .before .before .before .before .before .before .before .before .before .before .before .before .before .before .before .before .before .before) .marks-of .ensures) ((c .before .before .before .before .before .before .before .before .before .before .before .before .before .before .before .before .before .before .before .before .before .before .before .before .before .before .before .before .before) .calls-of .ensures) in
       let e = (c .before .before .before .before .before .before .before .before .before .before .before .before .before .before .before .before .before .before .before .before .before .before .before .before .before .before) .count-ones .ensures (a .program .functions) (none-from a (g .plan) d q) ∙ after-told a (g .plan) d q in
       let f = (c .before .before .before .before .before .before .before .before .before .before .before .before .before .before .before .before .before .before .before .before .before .before .before) .count-lists .ensures .0 (a .program) (d .removing) e (d .root-is) in
       let u = (c .before .before .before .before .before .before .before .before .before .before .before .before .before .before .before .before .before .before .before .before .before .before .before) .count-lists .ensures .1 .1 in
@@ -150,7 +144,7 @@ returns-2 c = (
       let t = emitted-used u (a .program) (g .rounds) ((c .before .before .before .before .before .before .before .before .before .before .before .before .before .before .before .before) .measure-clean-report .ensures (a .program) r (d .root-is)) in
       let s = still ((c .before .before .before .before .before .before .before .before .before .before .before .before .before .before .before .before .before .before .before .before .before .before .before) .count-lists .last .1 .1 .1 .1 .1 .1 .0) ((c .before .before .before .before .before .before .before .before .before .before .before .before .before .before .before .before) .measure-clean-report .last .1 .1 .1 .1 .1 .1 .0) (g .report .now) _ _ (f .1) t in
       let k = (c .before .before) .write-kept .ensures a in
-      let m = marks-are _ (g .plan) ((c .before .before .before .before .before .before .before .before .before .before .before .before .before .before .before .before .before .before .before .before .before .before .before .before .before .before .before .before .before) .calls-of .ensures) ∙ marks-used o (d .removing .readable .indexed .fits) in
+      let m = marks-are _ (g .plan) ((c .before .before .before .before .before .before .before .before .before .before .before .before .before .before .before .before .before .before .before .before .before .before .before .before .before .before .before .before .before .before) .marks-of .ensures) ((c .before .before .before .before .before .before .before .before .before .before .before .before .before .before .before .before .before .before .before .before .before .before .before .before .before .before .before .before .before) .calls-of .ensures) ∙ marks-used o (d .removing .readable .indexed .fits) in
       wrote-all (a .program) _ _ (image-told a (g .plan) d m) (text-told a (g .plan) d q) (report-short (d .removing .readable) _ (g .rounds) few) (g .output .now) (g .report .now)
       ((c .before .before) .write-kept .result) ((c .before .before .before .before .before .before .before .before .before .before .before .before .before .before .before .before) .measure-clean-report .result) (k .0) (whole-length (t .after)) (omega (arith, (c .before .before .before .before .before .before .before .before .before .before .before .before .before) .if1 .left, ap length s)) _ _
       (written-as _ (g .output .now) _ _ (k .0) (k .1)) (emitted-whole (g .report .now) _ _ _ _ s (emitted-used u (a .program) (g .rounds) ((c .before .before .before .before .before .before .before .before .before .before) .format-clean-report .ensures .0 (a .program) r (d .root-is))) (whole-fits {k = length (g .report .now)} (t .after) (omega (arith, (c .before .before .before .before .before .before .before .before .before .before .before .before .before) .if1 .left, ap length s)))),
@@ -163,9 +157,7 @@ deliver-spec =
     (tie.spec
     sub-n
     slice-aggregate-b
-    mul-from
-    mul-from-2
-    add-from
+    marks-of-requires
     calls-of-requires
     mul-count-ones
     sub-count-ones

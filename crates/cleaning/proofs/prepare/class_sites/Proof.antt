@@ -1,8 +1,9 @@
 -- `cleaning::prepare::class_sites` meets its contract. Assumes nothing.
-use Prim.Native.Nat.{ℕ, _+_, _-_, _≤_}
+use Prim.Native.Nat.{ℕ, _-_, _≤_}
 use native.Mathlib.Omega.{arith}
 use mathlib.Core.Path.{_≡_, sym, subst}
 use Rattle.program.specs.Syntax.{Program}
+use Rattle.index.specs.Layout.{calls}
 use Rattle.index.specs.Lists.{ListAt}
 use Rattle.index.proofs.First.{Element, element-at}
 use Rattle.told.specs.Numbered.{sitesOf}
@@ -20,8 +21,8 @@ abbrev μ-loop : tie.MeasureT-loop
 calls-of-requires : tie.Need-calls-of-requires Inv-loop μ-loop
 calls-of-requires c κs = let w = c .before .before .pre .chains in (omega (arith, w .fits, w .small), omega (arith, w .fits, w .small))
 
-add-links : tie.Need-add-links Inv-loop μ-loop
-add-links c = let w = c .before .before .before .before .pre .chains in omega (arith, w .fits, w .small, c .before .calls-of .ensures)
+links-of-requires : tie.Need-links-of-requires Inv-loop μ-loop
+links-of-requires c κs = let w = c .before .before .before .pre .chains in (omega (arith, w .fits, w .small), omega (arith, w .fits, w .small), omega (arith, w .fits, w .small))
 
 loop-holds : tie.Need-loop-holds Inv-loop μ-loop
 loop-holds c = (omega arith, λ w h. classes-none w (c .before .before .before .before .args .work .now) (c .before .before .before .before .args .plan))
@@ -33,11 +34,12 @@ head-site-requires c κs =
     omega (arith, p .chains .fits, k .length, c .before .if1 .taken)
 
 -- The list of the function at the loop's place, for every program that work is of.
-its-list : (c : tie.After-head-site Inv-loop μ-loop) (w : Program) → Chains (c .before .before .before .before .before .before .before .before .before .args .b .now) w (c .before .before .before .before .before .before .before .before .before .args .work .now) (c .before .before .before .before .before .before .before .before .before .args .plan) → (x : Element (w .functions) (c .before .before .before .before .loop .f)) → ListAt (c .before .before .before .before .before .before .before .before .before .args .b .now) (c .before .before .before .before .loop .work) (c .before .before .before .before .before .before .calls-of .result) (c .before .before .before .before .before .before .calls-of .result + c .before .before .before .before .before .before .before .before .before .args .plan .sites) (c .before .before .before .before .before .before .before .before .before .args .plan .sites) (c .head-site .result) (x .element .name) (sitesOf w)
+its-list : (c : tie.After-head-site Inv-loop μ-loop) (w : Program) → Chains (c .before .before .before .before .before .before .before .before .before .args .b .now) w (c .before .before .before .before .before .before .before .before .before .args .work .now) (c .before .before .before .before .before .before .before .before .before .args .plan) → (x : Element (w .functions) (c .before .before .before .before .loop .f)) → ListAt (c .before .before .before .before .before .before .before .before .before .args .b .now) (c .before .before .before .before .loop .work) (c .before .before .before .before .before .before .calls-of .result) (c .before .before .before .before .before .links-of .result) (c .before .before .before .before .before .before .before .before .before .args .plan .sites) (c .head-site .result) (x .element .name) (sitesOf w)
 its-list c w h x =
     let a = c .before .before .before .before .before .before .before .before .before .args in
-    subst (λ (k : ℕ). ListAt (a .b .now) (c .before .before .before .before .loop .work) k (k + a .plan .sites) (a .plan .sites) (c .head-site .result) (x .element .name) (sitesOf w)) (sym (c .before .before .before .before .before .before .calls-of .ensures))
-    (chains-list h (c .before .before .before .before .loop .inv .1 w h) (x .element) (x .is) (c .head-site .result) (c .head-site .ensures .0) (c .before .before .if1 .taken))
+    subst (λ (k : ℕ). ListAt (a .b .now) (c .before .before .before .before .loop .work) k (c .before .before .before .before .before .links-of .result) (a .plan .sites) (c .head-site .result) (x .element .name) (sitesOf w)) (sym (c .before .before .before .before .before .before .calls-of .ensures))
+    (subst (λ (k : ℕ). ListAt (a .b .now) (c .before .before .before .before .loop .work) (calls (a .plan)) k (a .plan .sites) (c .head-site .result) (x .element .name) (sitesOf w)) (sym (c .before .before .before .before .before .links-of .ensures))
+    (chains-list h (c .before .before .before .before .loop .inv .1 w h) (x .element) (x .is) (c .head-site .result) (c .head-site .ensures .0) (c .before .before .if1 .taken)))
 
 abbrev there : (c : tie.After-head-site Inv-loop μ-loop) (w : Program) → Chains (c .before .before .before .before .before .before .before .before .before .args .b .now) w (c .before .before .before .before .before .before .before .before .before .args .work .now) (c .before .before .before .before .before .before .before .before .before .args .plan) → Element (w .functions) (c .before .before .before .before .loop .f)
 there c w h = element-at (w .functions) (c .before .before .before .before .loop .f) (omega (arith, h .functions, c .before .before .if1 .taken))
@@ -66,7 +68,7 @@ loop-again c =
       λ w h.
           let x = there (c .before .before .before .before) w h in
           let l = its-list (c .before .before .before .before) w h x in
-          classes-next h (c .before .before .before .before .before .before .before .before .loop .inv .1 w h) (x .element) (x .is) (c .before .before .before .before .before .before .before .before .before .before .calls-of .result) (c .before .before .before .before .before .before .before .before .before .before .calls-of .ensures) (z .0 (x .element .name) (sitesOf w) l) (z .1 (x .element .name) (sitesOf w) l),
+          classes-next h (c .before .before .before .before .before .before .before .before .loop .inv .1 w h) (x .element) (x .is) (c .before .before .before .before .before .before .before .before .before .links-of .result) (c .before .before .before .before .before .before .before .before .before .links-of .ensures) (z .0 (x .element .name) (sitesOf w) l) (z .1 (x .element .name) (sitesOf w) l),
     )
 
 same-length : tie.Need-same-length Inv-loop μ-loop
@@ -84,7 +86,7 @@ class-sites-spec =
     Inv-loop
     μ-loop
     calls-of-requires
-    add-links
+    links-of-requires
     loop-holds
     head-site-requires
     class-list-requires

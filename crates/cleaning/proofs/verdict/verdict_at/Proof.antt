@@ -1,5 +1,5 @@
 -- `cleaning::verdict::verdict_at` meets its contract. Assumes nothing.
-use Prim.Native.Nat.{ℕ, _+_, _*_, _<_}
+use Prim.Native.Nat.{ℕ, _+_, _<_}
 use native.Mathlib.Omega.{arith}
 use mathlib.Core.Path.{_≡_}
 use mathlib.Core.Bool.{true}
@@ -9,7 +9,7 @@ use Rattle.program.specs.Limits.{Mode}
 use Rattle.image.specs.Parts.{TermsAt}
 use Rattle.program.specs.Syntax.{Function, Program}
 use Rattle.told.specs.Numbered.{Held, sitesOf}
-use Rattle.index.specs.Layout.{heads, room}
+use Rattle.index.specs.Layout.{heads}
 use Rattle.index.specs.Links.{listHead}
 use Rattle.index.specs.Lists.{ListAt, Among}
 use Rattle.index.proofs.Alike.{call-of, reading-of}
@@ -35,10 +35,6 @@ argument c w f x y d e a =
     from-part (c .before .before .before .before .before .args .b .now) (c .site-argument .result)
     (reading-of (given (c .before .before) w f x d e) a (c .site-argument .result) (c .site-argument .ensures .1 (call-of (given (c .before .before) w f x d e) a)))
 
--- The room begins where `from` says.
-room-is : (c : tie.After-calls-of) → let p = c .before .before .before .args .plan in c .calls-of .result + 2 * p .sites ≡ room p
-room-is c = omega (arith, c .calls-of .ensures)
-
 calls-of-requires : tie.Need-calls-of-requires
 calls-of-requires c κs = let d = c .before .before .pre .0 .indexed in (omega (arith, d .fits, d .small), omega (arith, d .fits, d .small))
 
@@ -56,11 +52,8 @@ site-argument-requires c κs =
     let a = c .before .before .before .before .pre .0 in
     call-of (given (c .before) (a .program) (a .place) (a .function) (a .indexed) (a .is)) (record { is = a .at; listed = a .listed })
 
-mul-from : tie.Need-mul-from
-mul-from c = search needs
-
-add-from : tie.Need-add-from
-add-from c = search needs
+room-of-requires : tie.Need-room-of-requires
+room-of-requires c κs = search needs
 
 sub-lent-for : tie.Need-sub-lent-for
 sub-lent-for c = search needs
@@ -84,11 +77,11 @@ patterns-verdict-requires : tie.Need-patterns-verdict-requires
 patterns-verdict-requires c κs =
     let s = c .before .before .before .before .before .before .before .before in
     let a = s .pre .0 in
-    let n = c .before .before .before .before .before in (
+    let n = c .before .before .room-of in (
       a .reading,
       argument (c .before .before .before) (a .program) (a .place) (a .function) (a .site) (a .indexed) (a .is) (record { is = a .at; listed = a .listed }),
       s .pre .1,
-      part-lent (s .args .b .now) (s .args .plan) (s .args .work .now) (n .calls-of .result + 2 * s .args .plan .sites) (c .before .lent-for .result) (room-is n) (a .indexed .fits) (c .before .lent-for .ensures) (s .pre .2),
+      part-lent (s .args .b .now) (s .args .plan) (s .args .work .now) (n .result) (c .before .lent-for .result) (n .ensures) (a .indexed .fits) (c .before .lent-for .ensures) (s .pre .2),
     )
 
 same-length : tie.Need-same-length
@@ -97,11 +90,11 @@ same-length c = search needs
 returns : tie.Need-returns
 returns c =
     let s = c .before .before .before .before .before .before .before .before .before .before .before in
-    let n = c .before .before .before .before .before .before .before .before in
+    let n = c .before .before .before .before .before .room-of in
     let l = c .before .before .before .before .lent-for in
     let o = c .before .before .patterns-verdict in (
       λ w f x y d e g i t. (o .ensures .0 t (argument (c .before .before .before .before .before .before) w f x y d e (record { is = g; listed = i }))),
-      used-from-part (s .args .b .now) (s .args .plan) (s .args .work .now) (n .calls-of .result + 2 * s .args .plan .sites) (l .result) (room-is n) (s .pre .0 .indexed .fits) (l .ensures) (o .last .1 .1 .1 .0) (o .ensures .1),
+      used-from-part (s .args .b .now) (s .args .plan) (s .args .work .now) (n .result) (l .result) (n .ensures) (s .pre .0 .indexed .fits) (l .ensures) (o .last .1 .1 .1 .0) (o .ensures .1),
     )
 
 pub verdict-at-spec : {M : Type 1} → statement M
@@ -113,8 +106,7 @@ verdict-at-spec =
     mul-site-argument
     slice-read-site-argument
     site-argument-requires
-    mul-from
-    add-from
+    room-of-requires
     sub-lent-for
     lent-for-requires
     mul-patterns-verdict

@@ -20,10 +20,10 @@ keep s = isThere (fellOf (s .args .plan) (s .args .work .now)) (s .args .round)
 here-below : (s : tie.Start) → s .args .i < s .args .plan .sites
 here-below s = let a = s .pre .0 in site-below (a .indexed) (a .place) (a .function) (a .is) (s .args .i) (a .site) (a .at)
 
-class-is : (c : tie.After-class-of) → let a = (c .before .before .before .before .before .before .before .before .before) .args in c .class-of .result ≡ entryClass (getD (a .work .now) (links (a .plan) + a .i) 0)
+class-is : (c : tie.After-class-of) → let a = (c .before .before .before .before .before .before .before .before) .args in c .class-of .result ≡ entryClass (getD (a .work .now) (links (a .plan) + a .i) 0)
 class-is c =
-    let a = (c .before .before .before .before .before .before .before .before .before) .args in
-    c .class-of .ensures .0 ∙ ap (λ (k : ℕ). entryClass (getD (a .work .now) (k + a .plan .sites + a .i) 0)) ((c .before .before) .calls-of .ensures)
+    let a = (c .before .before .before .before .before .before .before .before) .args in
+    c .class-of .ensures .0 ∙ ap (λ (k : ℕ). entryClass (getD (a .work .now) (k + a .i) 0)) ((c .before) .links-of .ensures)
 
 site-there-requires : tie.Need-site-there-requires
 site-there-requires c κs =
@@ -41,18 +41,15 @@ returns c =
       used-same (s .pre .2),
     )
 
-calls-of-requires : tie.Need-calls-of-requires
-calls-of-requires c κs = let d = (c .before .before .before .before .before .before) .pre .0 .indexed in (omega (arith, d .fits, d .small), omega (arith, d .fits, d .small))
-
-add-class-of : tie.Need-add-class-of
-add-class-of c = let d = (c .before .before .before .before .before .before .before .before) .pre .0 .indexed in omega (arith, d .fits, d .small, (c .before) .calls-of .ensures)
+links-of-requires : tie.Need-links-of-requires
+links-of-requires c κs = let d = (c .before .before .before .before .before .before) .pre .0 .indexed in (omega (arith, d .fits, d .small), omega (arith, d .fits, d .small), omega (arith, d .fits, d .small))
 
 class-of-requires : tie.Need-class-of-requires
-class-of-requires c κs = let d = (c .before .before .before .before .before .before .before .before) .pre .0 .indexed in omega (arith, d .fits, d .small, (c .before) .calls-of .ensures, here-below (c .before .before .before .before .before .before .before .before))
+class-of-requires c κs = let d = (c .before .before .before .before .before .before .before) .pre .0 .indexed in omega (arith, d .fits, d .small, c .links-of .ensures, here-below (c .before .before .before .before .before .before .before))
 
 site-there-requires-2 : tie.Need-site-there-requires-2
 site-there-requires-2 c κs =
-    let s = (c .before .before .before .before .before .before .before .before .before .before .before) in
+    let s = (c .before .before .before .before .before .before .before .before .before .before) in
     let a = s .pre .0 in
     let k = (c .before .before) .class-of .result in
     let h : k < s .args .plan .sites = omega (arith, here-below s, (c .before) .if2 .taken) in
@@ -63,13 +60,13 @@ same-length-2 c = search needs
 
 returns-2 : tie.Need-returns-2
 returns-2 c =
-    let s = (c .before .before .before .before .before .before .before .before .before .before .before .before .before) in (
+    let s = (c .before .before .before .before .before .before .before .before .before .before .before .before) in (
       λ w f x y d e g l t. met-repeat d f x e (keep s) (t .terms) (s .args .i) y g l ((c .before .before .before .before) .class-of .result) (class-is (c .before .before .before .before)) ((c .before .before .before) .if2 .taken) (sym ((c .before) .site-there2 .ensures) ∙ c .if3 .taken),
       used-same (s .pre .2),
     )
 
 verdict-at-requires : tie.Need-verdict-at-requires
-verdict-at-requires c κs = (c .before .before .before .before .before .before .before .before .before .before .before) .pre
+verdict-at-requires c κs = (c .before .before .before .before .before .before .before .before .before .before) .pre
 
 is-disjoint-requires : tie.Need-is-disjoint-requires
 is-disjoint-requires c κs = search needs
@@ -79,12 +76,12 @@ same-length-3 c = (c .before .before .before) .verdict-at .ensures .1 .length
 
 returns-3 : tie.Need-returns-3
 returns-3 c =
-    let s = (c .before .before .before .before .before .before .before .before .before .before .before .before .before .before .before) in
+    let s = (c .before .before .before .before .before .before .before .before .before .before .before .before .before .before) in
     let o = (c .before .before .before) .verdict-at in
     let r = c .is-disjoint in
-    let h = (c .before .before .before .before .before .before .before .before .before .before .before) .site-there in (
+    let h = (c .before .before .before .before .before .before .before .before .before .before) .site-there in (
       λ w f x y d e g l t.
-          met-asked d f x e (keep s) (t .terms) (s .args .i) y g l (sym (h .ensures) ∙ not-is (h .result) false ((c .before .before .before .before .before .before .before .before .before .before) .if1 .left)) (not (r .result))
+          met-asked d f x e (keep s) (t .terms) (s .args .i) y g l (sym (h .ensures) ∙ not-is (h .result) false ((c .before .before .before .before .before .before .before .before .before) .if1 .left)) (not (r .result))
           (met-by (t .terms) y (o .result) (o .ensures .0 w f x y d e g l t) (r .result) (r .ensures)),
       o .ensures .1,
     )
@@ -96,8 +93,7 @@ is-met-spec =
     site-there-requires
     same-length
     returns
-    calls-of-requires
-    add-class-of
+    links-of-requires
     class-of-requires
     site-there-requires-2
     same-length-2

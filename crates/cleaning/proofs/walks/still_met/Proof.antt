@@ -3,6 +3,7 @@ use Prim.Native.Nat.{ℕ, suc, _+_, _*_, _<_, _≤_}
 use native.Mathlib.Omega.{arith}
 use mathlib.Core.Path.{_≡_, sym, ap, subst, _∙_}
 use mathlib.Core.Bool.{Bool, true, false}
+use mathlib.Core.List.{List}
 use mathlib.Core.Option.{some}
 use borrow.Author.Tests.{lt-ltb, le-ltb}
 use lib.Dec.{ltb}
@@ -20,13 +21,22 @@ use Rattle.told.specs.Asked.{meets}
 use Rattle.told.specs.History.{isThere}
 use Rattle.told.specs.Numbered.{sitesOf}
 use Rattle.cleaning.specs.Indexed.{Indexed, fellOf}
-use Rattle.cleaning.specs.Walks.{OnList, NoneMet, Owns, WitnessOf, witnessFrom, StillMet}
+use Rattle.index.specs.declared.Plan.{Plan}
+use Rattle.cleaning.specs.Room.{Used}
+use Rattle.cleaning.specs.Walks.{OnList, NoneMet, Owns, WitnessOf, witnessFrom, StillMet, OneColumn}
 use Rattle.cleaning.proofs.Meeting.{number-is, site-element, sentence-below}
 use Rattle.cleaning.proofs.Room.{used-same, remembering-set, one-column, no-column}
 use Rattle.cleaning.proofs.Witnesses.{pattern-there, begins-at, none-left, witness-there, still-by}
 use borrow.Author.Needs.{needs}
 use Rattle.cleaning.proofs.walks.still_met.Statement.{statement}
 use Rattle.cleaning.proofs.walks.still_met.Tie as tie
+
+-- An entry that is written at k, which is q.
+put-there : {k q : ℕ} → k ≡ q → (m : List ℕ) (v : ℕ) → k < length m → getD (set m k v) q 0 ≡ v
+put-there {k} e m v h = ap (λ (j : ℕ). getD (set m k v) j 0) (sym e) ∙ getD-set-same m k v 0 h
+
+put-column : {k q : ℕ} → k ≡ q → {b : List ℕ} {p : Plan} {m n : List ℕ} → Used b p m n → (v : ℕ) → OneColumn p m (set n k v) q
+put-column {k} e {p} {m} {n} u v = subst (OneColumn p m (set n k v)) e (one-column u k v)
 
 abbrev keep : tie.Start → ℕ → Bool
 keep s = isThere (fellOf (s .args .plan) (s .args .work .now)) (s .args .round)
@@ -60,64 +70,69 @@ witness-within s = let d = s .pre .0 .indexed in (omega (arith, d .fits, own-bel
 witness-column : (s : tie.Start) → witnesses (s .args .plan) + s .args .s < room (s .args .plan)
 witness-column s = omega (arith, own-below s)
 
+-- The entry that is written is the witness.
+written : (c : tie.After-witnesses-of) → let a = c .before .before .before .args in c .witnesses-of .result + a .s ≡ witnesses (a .plan) + a .s
+written c = ap (λ (k : ℕ). k + c .before .before .before .args .s) (c .witnesses-of .ensures)
+
+written-within : (c : tie.After-witnesses-of) → let a = c .before .before .before .args in (c .witnesses-of .result + a .s < length (a .work .now)) × (length (a .work .now) ≤ 8192)
+written-within c = let w = witness-within (c .before .before .before) in (omega (arith, w .0, written c), w .1)
+
 -- Where the search begins.
-begins : (c : tie.After-witness-of) (w : Program) (x : Function) (y : Sentence) → Given (c .before .before .before .before .before .before) w → Owned (c .before .before .before .before .before .before) w x y → Seen (c .before .before .before .before .before .before) w x y
-    → OnList (x .name) (sitesOf w) (c .witness-of .result) × NoneMet (keep (c .before .before .before .before .before .before)) (x .name) (y .pattern) (sitesOf w) (c .witness-of .result)
+begins : (c : tie.After-witness-of) (w : Program) (x : Function) (y : Sentence) → Given (c .before .before .before .before .before) w → Owned (c .before .before .before .before .before) w x y → Seen (c .before .before .before .before .before) w x y
+    → OnList (x .name) (sitesOf w) (c .witness-of .result) × NoneMet (keep (c .before .before .before .before .before)) (x .name) (y .pattern) (sitesOf w) (c .witness-of .result)
 begins c w x y d o a =
-    let s = (c .before .before .before .before .before .before) in
+    let s = (c .before .before .before .before .before) in
     subst (λ (i : ℕ). OnList (x .name) (sitesOf w) i × NoneMet (keep s) (x .name) (y .pattern) (sitesOf w) i) (sym (c .witness-of .ensures))
     (begins-at (keep s) (x .name) (y .pattern) (sitesOf w) (witness s) (head s) (d .headed .head true (s .args .f) x (o .function)) a)
 
--- The pattern, where `place_of` says.
-abbrev pattern : (c : tie.After-place-of) (w : Program) (x : Function) (y : Sentence) → Given (c .before .before .before .before .before .before .before .before .before .before .before .before .before) w → Owned (c .before .before .before .before .before .before .before .before .before .before .before .before .before) w x y → TermsAt Mode.pattern (drop (c .place-of .result + 9) ((c .before .before .before .before .before .before .before .before .before .before .before .before .before) .args .b .now))
-pattern c w x y d o = pattern-there (d .sentence .entry ((c .before .before .before .before .before .before .before .before .before .before .before .before .before) .args .s) y (o .sentence)) (c .place-of .result) (c .place-of .ensures .0)
+-- The pattern, where `pattern_place` says.
+abbrev pattern : (c : tie.After-pattern-place) (w : Program) (x : Function) (y : Sentence) → Given (c .before .before .before .before .before .before .before .before .before .before .before) w → Owned (c .before .before .before .before .before .before .before .before .before .before .before) w x y → TermsAt Mode.pattern (drop (c .pattern-place .result) ((c .before .before .before .before .before .before .before .before .before .before .before) .args .b .now))
+pattern c w x y d o = pattern-there (d .sentence .entry ((c .before .before .before .before .before .before .before .before .before .before .before) .args .s) y (o .sentence)) (c .pattern-place .result) (c .pattern-place .ensures .0)
 
 -- What the walk finds.
-found : (c : tie.After-meeting-from) (w : Program) (x : Function) (y : Sentence) → Given (c .before .before .before .before .before .before .before .before .before .before .before .before .before .before .before) w → Owned (c .before .before .before .before .before .before .before .before .before .before .before .before .before .before .before) w x y → Seen (c .before .before .before .before .before .before .before .before .before .before .before .before .before .before .before) w x y → First (meets (keep (c .before .before .before .before .before .before .before .before .before .before .before .before .before .before .before)) (x .name) (y .pattern)) 0 (sitesOf w) (c .meeting-from .result)
+found : (c : tie.After-meeting-from) (w : Program) (x : Function) (y : Sentence) → Given (c .before .before .before .before .before .before .before .before .before .before .before .before .before) w → Owned (c .before .before .before .before .before .before .before .before .before .before .before .before .before) w x y → Seen (c .before .before .before .before .before .before .before .before .before .before .before .before .before) w x y → First (meets (keep (c .before .before .before .before .before .before .before .before .before .before .before .before .before)) (x .name) (y .pattern)) 0 (sitesOf w) (c .meeting-from .result)
 found c w x y d o a =
-    let i = begins (c .before .before .before .before .before .before .before .before .before) w x y d o a in
-    c .meeting-from .ensures .0 w ((c .before .before .before .before .before .before .before .before .before .before .before .before .before .before .before) .args .f) x d (o .function) (i .0) (pattern (c .before .before) w x y d o) (i .1)
+    let i = begins (c .before .before .before .before .before .before .before .before) w x y d o a in
+    c .meeting-from .ensures .0 w ((c .before .before .before .before .before .before .before .before .before .before .before .before .before) .args .f) x d (o .function) (i .0) (pattern (c .before .before) w x y d o) (i .1)
 
 found-low : (c : tie.After-meeting-from) → c .meeting-from .result ≤ 32768
 found-low c =
-    let p = (c .before .before .before .before .before .before .before .before .before .before .before .before .before .before .before) .pre .0 in
+    let p = (c .before .before .before .before .before .before .before .before .before .before .before .before .before) .pre .0 in
     omega (arith, found c (p .program) (p .function) (p .sentence) (p .indexed) (p .owns) (p .witnessed) .within, p .indexed .sites, p .indexed .fits, p .indexed .small)
 
 -- The witness is still within work when the walk has ended.
-after-within : (c : tie.After-meeting-from) → let s = (c .before .before .before .before .before .before .before .before .before .before .before .before .before .before .before) in witnesses (s .args .plan) + s .args .s < length (c .meeting-from .last .1 .0)
-after-within c = omega (arith, witness-within (c .before .before .before .before .before .before .before .before .before .before .before .before .before .before .before), c .meeting-from .ensures .1 .length)
+after-within : (c : tie.After-meeting-from) → let w = c .before .before .before .before .before .before .before .before .before .before in w .witnesses-of .result + w .before .before .before .args .s < length (c .meeting-from .last .1 .0)
+after-within c = omega (arith, written-within (c .before .before .before .before .before .before .before .before .before .before), c .meeting-from .ensures .1 .length)
 
-mul-k : tie.Need-mul-k
-mul-k c = omega (arith, witness-within (c .before .before .before))
+witnesses-of-requires : tie.Need-witnesses-of-requires
+witnesses-of-requires c κs = (omega (arith, witness-within (c .before .before)), omega (arith, witness-within (c .before .before)))
 
 add-k : tie.Need-add-k
-add-k c = omega (arith, witness-within (c .before .before .before .before))
-
-add-k-2 : tie.Need-add-k-2
-add-k-2 c = omega (arith, witness-within (c .before .before .before .before))
+add-k c = omega (arith, written-within c)
 
 witness-of-requires : tie.Need-witness-of-requires
-witness-of-requires c κs = let s = (c .before .before .before .before .before) in (function-below s, own-below s, s .pre .0 .indexed .fits, s .pre .0 .indexed .small)
+witness-of-requires c κs = let s = (c .before .before .before .before) in (function-below s, own-below s, s .pre .0 .indexed .fits, s .pre .0 .indexed .small)
 
 cast-work : tie.Need-cast-work
-cast-work c = let d = (c .before .before .before .before .before .before .before .before .before) .pre .0 .indexed in omega (arith, d .fits, d .small)
+cast-work c = let d = (c .before .before .before .before .before .before .before .before) .pre .0 .indexed in omega (arith, d .fits, d .small)
 
 add-work : tie.Need-add-work
-add-work c = let d = (c .before .before .before .before .before .before .before .before .before) .pre .0 .indexed in omega (arith, d .fits, d .small)
+add-work c = let d = (c .before .before .before .before .before .before .before .before) .pre .0 .indexed in omega (arith, d .fits, d .small)
 
 mul-work : tie.Need-mul-work
-mul-work c = omega (arith, witness-within (c .before .before .before .before .before .before .before .before .before))
+mul-work c = omega (arith, written-within (c .before .before .before .before .before))
 
 slice-write-work : tie.Need-slice-write-work
-slice-write-work c = witness-within (c .before .before .before .before .before .before .before .before .before) .0
+slice-write-work c = written-within (c .before .before .before .before .before) .0
 
 same-length : tie.Need-same-length
 same-length c = search needs
 
 returns : tie.Need-returns
 returns c =
-    let s = (c .before .before .before .before .before .before .before .before .before) in
-    let k = witnesses (s .args .plan) + s .args .s in
+    let s = (c .before .before .before .before .before .before .before .before) in
+    let v = c .before .before .before .before .before in
+    let k = v .witnesses-of .result + s .args .s in
     let n = s .args .plan .sites in
     let i = (c .before .before .before) .witness-of .result in (
       λ w x y d o a.
@@ -125,19 +140,19 @@ returns c =
           let h : length (sitesOf w) ≤ i = omega (arith, (c .before) .if1 .taken, d .sites) in
           let z : n + 1 ≡ suc i = omega (arith, h, g .0 .within, d .sites) in
           still-by (keep s) (x .name) (y .pattern) (sitesOf w) i (none-left (keep s) (x .name) (y .pattern) (sitesOf w) i (g .0) (g .1) h)
-          (getD (set (s .args .work .now) k (n + 1)) k 0) (getD-set-same (s .args .work .now) k (n + 1) 0 (witness-within s .0) ∙ z) false (sym (le-ltb i (length (sitesOf w)) h)),
-      (one-column (used-same (s .pre .2)) k (n + 1), remembering-set (s .args .b .now) (s .args .plan) (s .args .work .now) k (n + 1) (witness-column s) (s .pre .2)),
+          (getD (set (s .args .work .now) k (n + 1)) (witnesses (s .args .plan) + s .args .s) 0) (put-there (written v) (s .args .work .now) (n + 1) (written-within v .0) ∙ z) false (sym (le-ltb i (length (sitesOf w)) h)),
+      (put-column (written v) (used-same (s .pre .2)) (n + 1), remembering-set (s .args .b .now) (s .args .plan) (s .args .work .now) k (n + 1) (omega (arith, written v, witness-column s)) (s .pre .2)),
     )
 
 mul-if2 : tie.Need-mul-if2
-mul-if2 c = omega (arith, witness-within (c .before .before .before .before .before .before .before .before))
+mul-if2 c = omega (arith, written-within (c .before .before .before .before))
 
 slice-read-if2 : tie.Need-slice-read-if2
-slice-read-if2 c = witness-within (c .before .before .before .before .before .before .before .before .before) .0
+slice-read-if2 c = written-within (c .before .before .before .before .before) .0
 
 site-there-requires : tie.Need-site-there-requires
 site-there-requires c κs =
-    let s = (c .before .before .before .before .before .before .before .before .before .before .before) in
+    let s = (c .before .before .before .before .before .before .before .before .before .before) in
     let p = s .pre .0 in
     let h : (c .before .before .before .before .before) .witness-of .result < s .args .plan .sites = omega (arith, (c .before .before .before) .if1 .left) in
     (h, p .indexed .fits, p .indexed .small, sentence-below (p .indexed) (s .args .f) (p .function) (p .owns .function) ((c .before .before .before .before .before) .witness-of .result) h)
@@ -147,34 +162,25 @@ same-length-2 c = search needs
 
 returns-2 : tie.Need-returns-2
 returns-2 c =
-    let s = (c .before .before .before .before .before .before .before .before .before .before .before .before .before) in
+    let s = (c .before .before .before .before .before .before .before .before .before .before .before .before) in
     let i = (c .before .before .before .before .before .before .before) .witness-of .result in (
       λ w x y d o a.
           let h : i < s .args .plan .sites = omega (arith, (c .before .before .before .before .before) .if1 .left) in
           let u = site-element d (s .args .f) x (o .function) i h in
           let e = (c .before .before .before .before .before .before .before) .witness-of .ensures in
           let k = ap (keep s) (sym (number-is d (s .args .f) x (o .function) i (u .element) (u .is))) ∙ sym ((c .before) .site-there .ensures) ∙ c .if3 .taken in
-          let g = witness-there (keep s) (x .name) (y .pattern) (sitesOf w) (witness s) (head s) ((c .before .before .before) .if2 .taken) a (u .element) (ap (getElem? (sitesOf w)) (sym e) ∙ u .is) k in
+          let g = witness-there (keep s) (x .name) (y .pattern) (sitesOf w) (witness s) (head s) (λ z. (c .before .before .before) .if2 .taken (ap (λ (j : ℕ). getD (s .args .work .now) j 0) (written (c .before .before .before .before .before .before .before .before .before)) ∙ z)) a (u .element) (ap (getElem? (sitesOf w)) (sym e) ∙ u .is) k in
           still-by (keep s) (x .name) (y .pattern) (sitesOf w) (witnessFrom (witness s) (head s)) (g .0) (witness s) (g .1) true
           (sym (lt-ltb (witnessFrom (witness s) (head s)) (length (sitesOf w)) (omega (arith, e, h, d .sites)))),
       (no-column (s .args .plan) (s .args .work .now) (witnesses (s .args .plan) + s .args .s), s .pre .2),
     )
 
-mul-place-of : tie.Need-mul-place-of
-mul-place-of c = omega (arith, witness-within (c .before .before .before .before .before .before .before .before .before .before .before .before))
-
-add-place-of : tie.Need-add-place-of
-add-place-of c = omega (arith, witness-within (c .before .before .before .before .before .before .before .before .before .before .before .before))
-
-place-of-requires : tie.Need-place-of-requires
-place-of-requires c κs = omega (arith, witness-within (c .before .before .before .before .before .before .before .before .before .before .before .before), own-below (c .before .before .before .before .before .before .before .before .before .before .before .before))
-
-add-pattern : tie.Need-add-pattern
-add-pattern c = search needs
+pattern-place-requires : tie.Need-pattern-place-requires
+pattern-place-requires c κs = let s = c .before .before .before .before .before .before .before .before .before .before in let d = s .pre .0 .indexed in (own-below s, omega (arith, d .fits), d .small)
 
 meeting-from-requires : tie.Need-meeting-from-requires
 meeting-from-requires c κs =
-    let s = (c .before .before .before .before .before .before .before .before .before .before .before .before .before .before) in
+    let s = (c .before .before .before .before .before .before .before .before .before .before .before .before) in
     let p = s .pre .0 in (
       record {
         program = p .program;
@@ -182,7 +188,7 @@ meeting-from-requires c κs =
         place = s .args .f;
         function = p .function;
         is = p .owns .function;
-        listed = begins (c .before .before .before .before .before .before .before .before) (p .program) (p .function) (p .sentence) (p .indexed) (p .owns) (p .witnessed) .0;
+        listed = begins (c .before .before .before .before .before .before .before) (p .program) (p .function) (p .sentence) (p .indexed) (p .owns) (p .witnessed) .0;
         reading = pattern (c .before) (p .program) (p .function) (p .sentence) (p .indexed) (p .owns);
       },
       s .pre .1,
@@ -196,36 +202,36 @@ add-work-2 : tie.Need-add-work-2
 add-work-2 c = omega (arith, found-low (c .before .before))
 
 mul-work-2 : tie.Need-mul-work-2
-mul-work-2 c = omega (arith, witness-within (c .before .before .before .before .before .before .before .before .before .before .before .before .before .before .before .before .before))
+mul-work-2 c = omega (arith, written-within (c .before .before .before .before .before .before .before .before .before .before .before .before))
 
 slice-write-work-2 : tie.Need-slice-write-work-2
 slice-write-work-2 c = after-within (c .before .before)
 
 same-length-3 : tie.Need-same-length-3
 same-length-3 c =
-    let s = (c .before .before .before .before .before .before .before .before .before .before .before .before .before .before .before .before .before .before) in
-    one-column ((c .before .before .before) .meeting-from .ensures .1) (witnesses (s .args .plan) + s .args .s) ((c .before .before .before) .meeting-from .result + 1) .length
+    let v = c .before .before .before .before .before .before .before .before .before .before .before .before .before in
+    one-column ((c .before .before .before) .meeting-from .ensures .1) (v .witnesses-of .result + v .before .before .before .args .s) ((c .before .before .before) .meeting-from .result + 1) .length
 
 returns-3 : tie.Need-returns-3
 returns-3 c =
-    let s = (c .before .before .before .before .before .before .before .before .before .before .before .before .before .before .before .before .before .before) in
-    let k = witnesses (s .args .plan) + s .args .s in
+    let s = (c .before .before .before .before .before .before .before .before .before .before .before .before .before .before .before .before) in
+    let v = c .before .before .before .before .before .before .before .before .before .before .before .before .before in
+    let k = v .witnesses-of .result + s .args .s in
     let g = (c .before .before .before) .meeting-from in
     let n = g .result in (
       λ w x y d o a.
           let z : n + 1 ≡ suc n = omega arith in
           still-by (keep s) (x .name) (y .pattern) (sitesOf w) n (found (c .before .before .before) w x y d o a)
-          (getD (set (g .last .1 .0) k (n + 1)) k 0) (getD-set-same (g .last .1 .0) k (n + 1) 0 (after-within (c .before .before .before)) ∙ z) (ltb n (s .args .plan .sites)) (ap (ltb n) (sym (d .sites))),
-      (one-column (g .ensures .1) k (n + 1), remembering-set (s .args .b .now) (s .args .plan) (g .last .1 .0) k (n + 1) (witness-column s) (g .ensures .1 .remembers)),
+          (getD (set (g .last .1 .0) k (n + 1)) (witnesses (s .args .plan) + s .args .s) 0) (put-there (written v) (g .last .1 .0) (n + 1) (after-within (c .before .before .before)) ∙ z) (ltb n (s .args .plan .sites)) (ap (ltb n) (sym (d .sites))),
+      (put-column (written v) (g .ensures .1) (n + 1), remembering-set (s .args .b .now) (s .args .plan) (g .last .1 .0) k (n + 1) (omega (arith, written v, witness-column s)) (g .ensures .1 .remembers)),
     )
 
 pub still-met-spec : {M : Type 1} → statement M
 still-met-spec =
     tie.close
     (tie.spec
-    mul-k
+    witnesses-of-requires
     add-k
-    add-k-2
     witness-of-requires
     cast-work
     add-work
@@ -238,10 +244,7 @@ still-met-spec =
     site-there-requires
     same-length-2
     returns-2
-    mul-place-of
-    add-place-of
-    place-of-requires
-    add-pattern
+    pattern-place-requires
     meeting-from-requires
     cast-work-2
     add-work-2

@@ -36,18 +36,18 @@ here-below : (s : tie.Start Inv-loop μ-loop) → s .args .i < s .args .plan .si
 here-below s = let a = s .pre in site-below (a .indexed) (a .place) (a .function) (a .is) (s .args .i) (a .site) (a .at)
 
 -- The walk at the loop's head, for the list that the function was given.
-abbrev given : (c : tie.At-loop Inv-loop μ-loop) → let p = c .before .before .before .before .before .before .before .pre in LeadWalk (p .indexed) (p .place) (p .function) (p .is) (keep (c .before .before .before .before .before .before .before)) (c .before .before .before .before .before .before .before .args .i) (p .site) (p .at) (p .listed) (c .loop .j)
-given c = let p = c .before .before .before .before .before .before .before .pre in c .loop .inv (p .body) (p .program) (p .place) (p .function) (p .site) (p .indexed) (p .is) (p .at) (p .listed)
+abbrev given : (c : tie.At-loop Inv-loop μ-loop) → let p = c .before .before .before .before .before .before .pre in LeadWalk (p .indexed) (p .place) (p .function) (p .is) (keep (c .before .before .before .before .before .before)) (c .before .before .before .before .before .before .args .i) (p .site) (p .at) (p .listed) (c .loop .j)
+given c = let p = c .before .before .before .before .before .before .pre in c .loop .inv (p .body) (p .program) (p .place) (p .function) (p .site) (p .indexed) (p .is) (p .at) (p .listed)
 
-class-is : (c : tie.After-class-of Inv-loop μ-loop) → let a = c .before .before .before .before .before .before .args in c .class-of .result ≡ entryClass (getD (a .work .now) (links (a .plan) + a .i) 0)
+class-is : (c : tie.After-class-of Inv-loop μ-loop) → let a = c .before .before .before .before .before .args in c .class-of .result ≡ entryClass (getD (a .work .now) (links (a .plan) + a .i) 0)
 class-is c =
-    let a = c .before .before .before .before .before .before .args in
-    c .class-of .ensures .0 ∙ ap (λ (k : ℕ). entryClass (getD (a .work .now) (k + a .plan .sites + a .i) 0)) (c .before .before .calls-of .ensures)
+    let a = c .before .before .before .before .before .args in
+    c .class-of .ensures .0 ∙ ap (λ (k : ℕ). entryClass (getD (a .work .now) (k + a .i) 0)) (c .before .links-of .ensures)
 
-next-is : (c : tie.After-next-site Inv-loop μ-loop) → let a = c .before .before .before .before .before .before .before .before .before .before .before .args in c .next-site .result ≡ entryNext (getD (a .work .now) (links (a .plan) + c .before .before .before .before .loop .j) 0)
+next-is : (c : tie.After-next-site Inv-loop μ-loop) → let a = c .before .before .before .before .before .before .before .before .before .before .args in c .next-site .result ≡ entryNext (getD (a .work .now) (links (a .plan) + c .before .before .before .before .loop .j) 0)
 next-is c =
-    let a = c .before .before .before .before .before .before .before .before .before .before .before .args in
-    c .next-site .ensures .0 ∙ ap (λ (k : ℕ). entryNext (getD (a .work .now) (k + a .plan .sites + c .before .before .before .before .loop .j) 0)) (c .before .before .before .before .before .before .before .calls-of .ensures)
+    let a = c .before .before .before .before .before .before .before .before .before .before .args in
+    c .next-site .ensures .0 ∙ ap (λ (k : ℕ). entryNext (getD (a .work .now) (k + c .before .before .before .before .loop .j) 0)) (c .before .before .before .before .before .before .links-of .ensures)
 
 there-is : (c : tie.After-site-there Inv-loop μ-loop) → c .site-there .result ≡ keep (c .before .before) (entrySentence (getD (c .before .before .args .work .now) (calls (c .before .before .args .plan) + c .before .before .args .i) 0))
 there-is c = c .site-there .ensures
@@ -60,44 +60,41 @@ site-there-requires c κs =
 returns : tie.Need-returns Inv-loop μ-loop
 returns c = λ b w f x y d e g l. leads-gone d f x e (keep (c .before .before .before)) (c .before .before .before .args .i) y g l (sym (there-is (c .before)) ∙ not-is (c .before .site-there .result) true (c .if1 .taken))
 
-calls-of-requires : tie.Need-calls-of-requires Inv-loop μ-loop
-calls-of-requires c κs = let d = c .before .before .before .pre .indexed in (omega (arith, d .fits, d .small), omega (arith, d .fits, d .small))
-
-add-links : tie.Need-add-links Inv-loop μ-loop
-add-links c = let d = c .before .before .before .before .before .pre .indexed in omega (arith, d .fits, d .small, c .before .calls-of .ensures)
+links-of-requires : tie.Need-links-of-requires Inv-loop μ-loop
+links-of-requires c κs = let d = c .before .before .before .pre .indexed in (omega (arith, d .fits, d .small), omega (arith, d .fits, d .small), omega (arith, d .fits, d .small))
 
 class-of-requires : tie.Need-class-of-requires Inv-loop μ-loop
-class-of-requires c κs = let d = c .before .before .before .before .before .pre .indexed in omega (arith, d .fits, d .small, c .before .calls-of .ensures, here-below (c .before .before .before .before .before))
+class-of-requires c κs = let d = c .before .before .before .before .pre .indexed in omega (arith, d .fits, d .small, c .links-of .ensures, here-below (c .before .before .before .before))
 
 loop-holds : tie.Need-loop-holds Inv-loop μ-loop
-loop-holds c = λ b w f x y d e g l. leads-start d f x e (keep (c .before .before .before .before .before .before)) (c .before .before .before .before .before .before .args .i) y g l (c .class-of .result) (class-is c)
+loop-holds c = λ b w f x y d e g l. leads-start d f x e (keep (c .before .before .before .before .before)) (c .before .before .before .before .before .args .i) y g l (c .class-of .result) (class-is c)
 
 is-of-class-requires : tie.Need-is-of-class-requires Inv-loop μ-loop
 is-of-class-requires c κs =
-    let p = c .before .before .before .before .before .before .before .before .pre in
-    let h = leads-below (p .indexed) (p .place) (p .function) (p .is) (keep (c .before .before .before .before .before .before .before .before)) (c .before .before .before .before .before .before .before .before .args .i) (p .site) (p .at) (p .listed) (c .before .loop .j) (given (c .before)) (c .loop-test .taken) in
+    let p = c .before .before .before .before .before .before .before .pre in
+    let h = leads-below (p .indexed) (p .place) (p .function) (p .is) (keep (c .before .before .before .before .before .before .before)) (c .before .before .before .before .before .before .before .args .i) (p .site) (p .at) (p .listed) (c .before .loop .j) (given (c .before)) (c .loop-test .taken) in
     (h .0, p .indexed .fits, p .indexed .small, h .1)
 
 returns-2 : tie.Need-returns-2 Inv-loop μ-loop
 returns-2 c = λ b w f x y d e g l.
-    leads-blocked d f x e (keep (c .before .before .before .before .before .before .before .before .before .before)) (c .before .before .before .before .before .before .before .before .before .before .args .i) y g l (c .before .before .before .loop .j) (c .before .before .before .loop .inv b w f x y d e g l) (c .before .before .loop-test .taken) (c .before .before .before .before .class-of .result) (class-is (c .before .before .before .before)) (c .before .is-of-class .result) (c .before .is-of-class .ensures) (c .if2 .taken)
+    leads-blocked d f x e (keep (c .before .before .before .before .before .before .before .before .before)) (c .before .before .before .before .before .before .before .before .before .args .i) y g l (c .before .before .before .loop .j) (c .before .before .before .loop .inv b w f x y d e g l) (c .before .before .loop-test .taken) (c .before .before .before .before .class-of .result) (class-is (c .before .before .before .before)) (c .before .is-of-class .result) (c .before .is-of-class .ensures) (c .if2 .taken)
 
 next-site-requires : tie.Need-next-site-requires Inv-loop μ-loop
-next-site-requires c κs = let d = c .before .before .before .before .before .before .before .before .before .before .pre .indexed in omega (arith, d .fits, c .before .before .loop-test .taken, here-below (c .before .before .before .before .before .before .before .before .before .before), c .before .before .before .before .before .before .calls-of .ensures)
+next-site-requires c κs = let d = c .before .before .before .before .before .before .before .before .before .pre .indexed in omega (arith, d .fits, c .before .before .loop-test .taken, here-below (c .before .before .before .before .before .before .before .before .before), c .before .before .before .before .before .links-of .ensures)
 
 loop-less : tie.Need-loop-less Inv-loop μ-loop
 loop-less c =
-    let p = c .before .before .before .before .before .before .before .before .before .before .before .pre in
-    let n = leads-next (p .indexed) (p .place) (p .function) (p .is) (keep (c .before .before .before .before .before .before .before .before .before .before .before)) (c .before .before .before .before .before .before .before .before .before .before .before .args .i) (p .site) (p .at) (p .listed) (c .before .before .before .before .loop .j) (given (c .before .before .before .before)) (c .before .before .before .loop-test .taken) (c .before .before .before .before .before .class-of .result) (class-is (c .before .before .before .before .before)) (c .before .before .is-of-class .result) (c .before .before .is-of-class .ensures) (c .before .if2 .left) (c .next-site .result) (next-is c) in
+    let p = c .before .before .before .before .before .before .before .before .before .before .pre in
+    let n = leads-next (p .indexed) (p .place) (p .function) (p .is) (keep (c .before .before .before .before .before .before .before .before .before .before)) (c .before .before .before .before .before .before .before .before .before .before .args .i) (p .site) (p .at) (p .listed) (c .before .before .before .before .loop .j) (given (c .before .before .before .before)) (c .before .before .before .loop-test .taken) (c .before .before .before .before .before .class-of .result) (class-is (c .before .before .before .before .before)) (c .before .before .is-of-class .result) (c .before .before .is-of-class .ensures) (c .before .if2 .left) (c .next-site .result) (next-is c) in
     omega (arith, c .before .before .before .loop-test .taken, n .1)
 
 loop-again : tie.Need-loop-again Inv-loop μ-loop
 loop-again c = λ b w f x y d e g l.
-    leads-next d f x e (keep (c .before .before .before .before .before .before .before .before .before .before .before)) (c .before .before .before .before .before .before .before .before .before .before .before .args .i) y g l (c .before .before .before .before .loop .j) (c .before .before .before .before .loop .inv b w f x y d e g l) (c .before .before .before .loop-test .taken) (c .before .before .before .before .before .class-of .result) (class-is (c .before .before .before .before .before)) (c .before .before .is-of-class .result) (c .before .before .is-of-class .ensures) (c .before .if2 .left) (c .next-site .result) (next-is c) .0
+    leads-next d f x e (keep (c .before .before .before .before .before .before .before .before .before .before)) (c .before .before .before .before .before .before .before .before .before .before .args .i) y g l (c .before .before .before .before .loop .j) (c .before .before .before .before .loop .inv b w f x y d e g l) (c .before .before .before .loop-test .taken) (c .before .before .before .before .before .class-of .result) (class-is (c .before .before .before .before .before)) (c .before .before .is-of-class .result) (c .before .before .is-of-class .ensures) (c .before .if2 .left) (c .next-site .result) (next-is c) .0
 
 returns-3 : tie.Need-returns-3 Inv-loop μ-loop
 returns-3 c = λ b w f x y d e g l.
-    leads-end d f x e (keep (c .before .before .before .before .before .before .before .before)) (c .before .before .before .before .before .before .before .before .args .i) y g l (c .before .loop .j) (c .before .loop .inv b w f x y d e g l) (c .loop-test .left) (sym (there-is (c .before .before .before .before .before .before)) ∙ not-is (c .before .before .before .before .before .before .site-there .result) false (c .before .before .before .before .before .if1 .left))
+    leads-end d f x e (keep (c .before .before .before .before .before .before .before)) (c .before .before .before .before .before .before .before .args .i) y g l (c .before .loop .j) (c .before .loop .inv b w f x y d e g l) (c .loop-test .left) (sym (there-is (c .before .before .before .before .before)) ∙ not-is (c .before .before .before .before .before .site-there .result) false (c .before .before .before .before .if1 .left))
 
 pub leads-spec : {M : Type 1} → statement M
 leads-spec =
@@ -107,8 +104,7 @@ leads-spec =
     μ-loop
     site-there-requires
     returns
-    calls-of-requires
-    add-links
+    links-of-requires
     class-of-requires
     loop-holds
     is-of-class-requires

@@ -47,28 +47,25 @@ Given s w = Readable (s .args .b .now) w (s .args .work .now) (s .args .plan)
 abbrev the-function : (s : tie.Start Inv-loop μ-loop) → Element (s .pre .0 .program .functions) (s .args .f)
 the-function s = function-of (s .pre .0 .readable) (s .args .f) (s .pre .1)
 
-next-is : (c : tie.After-next-site Inv-loop μ-loop) → let a = c .before .before .before .before .before .before .before .before .before .before .before .before .before .before .before .before .before .before .before .args in c .next-site .result ≡ entryNext (getD (a .work .now) (links (a .plan) + c .before .before .before .before .before .before .before .before .before .before .before .loop .i) 0)
-next-is c = used-next (used-then (c .before .before .before .before .before .before .before .before .before .before .before .loop .inv .3) (c .before .before .before .before .before .before .put-if-uncovered .ensures .1 .1)) (c .before .before .before .before .before .before .before .before .before .before .before .before .before .before .before .calls-of .result) (c .before .before .before .before .before .before .before .before .before .before .before .loop .i) (c .before .before .before .before .before .before .before .before .before .before .before .before .before .before .before .calls-of .ensures) (c .before .before .before .before .before .before .before .before .before .if1 .taken) (c .next-site .result) (c .next-site .ensures .0)
+next-is : (c : tie.After-next-site Inv-loop μ-loop) → let a = c .before .before .before .before .before .before .before .before .before .before .before .before .before .before .before .before .before .before .args in c .next-site .result ≡ entryNext (getD (a .work .now) (links (a .plan) + c .before .before .before .before .before .before .before .before .before .before .before .loop .i) 0)
+next-is c = used-next (used-then (c .before .before .before .before .before .before .before .before .before .before .before .loop .inv .3) (c .before .before .before .before .before .before .put-if-uncovered .ensures .1 .1)) (c .before .before .before .before .before .before .before .before .before .before .before .before .before .before .links-of .result) (c .before .before .before .before .before .before .before .before .before .before .before .loop .i) (c .before .before .before .before .before .before .before .before .before .before .before .before .before .before .links-of .ensures) (c .before .before .before .before .before .before .before .before .before .if1 .taken) (c .next-site .result) (c .next-site .ensures .0)
 
 -- The next of the list.
-next : (c : tie.After-next-site Inv-loop μ-loop) (w : Program) (x : Function) → let s = (c .before .before .before .before .before .before .before .before .before .before .before .before .before .before .before .before .before .before .before) in Given s w → getElem? (w .functions) (s .args .f) ≡ some x → First (isListed true (x .name)) (suc (c .before .before .before .before .before .before .before .before .before .before .before .loop .i)) (sitesOf w) (c .next-site .result)
+next : (c : tie.After-next-site Inv-loop μ-loop) (w : Program) (x : Function) → let s = (c .before .before .before .before .before .before .before .before .before .before .before .before .before .before .before .before .before .before) in Given s w → getElem? (w .functions) (s .args .f) ≡ some x → First (isListed true (x .name)) (suc (c .before .before .before .before .before .before .before .before .before .before .before .loop .i)) (sitesOf w) (c .next-site .result)
 next c w x d e =
-    let s = (c .before .before .before .before .before .before .before .before .before .before .before .before .before .before .before .before .before .before .before) in
+    let s = (c .before .before .before .before .before .before .before .before .before .before .before .before .before .before .before .before .before .before) in
     let i = c .before .before .before .before .before .before .before .before .before .before .before .loop .inv .0 w x d e in
     next-listed (d .indexed) (s .args .f) x e (c .before .before .before .before .before .before .before .before .before .before .before .loop .i) (record { within = i .within; listed = i .listed }) (c .before .before .before .before .before .before .before .before .before .if1 .taken) (c .next-site .result) (next-is c)
 
-calls-of-requires : tie.Need-calls-of-requires Inv-loop μ-loop
-calls-of-requires c κs = let d = c .before .before .before .pre .0 .readable .indexed in (omega (arith, d .fits, d .small), omega (arith, d .fits, d .small))
-
-add-links : tie.Need-add-links Inv-loop μ-loop
-add-links c = let d = c .before .before .before .before .before .pre .0 .readable .indexed in omega (arith, d .fits, d .small, c .before .calls-of .ensures)
+links-of-requires : tie.Need-links-of-requires Inv-loop μ-loop
+links-of-requires c κs = let d = c .before .before .before .pre .0 .readable .indexed in (omega (arith, d .fits, d .small), omega (arith, d .fits, d .small), omega (arith, d .fits, d .small))
 
 head-site-requires : tie.Need-head-site-requires Inv-loop μ-loop
-head-site-requires c κs = let d = c .before .before .before .before .before .before .pre .0 .readable .indexed in omega (arith, d .fits, c .before .before .before .before .before .before .pre .1)
+head-site-requires c κs = let d = c .before .before .before .before .before .pre .0 .readable .indexed in omega (arith, d .fits, c .before .before .before .before .before .pre .1)
 
 loop-holds : tie.Need-loop-holds Inv-loop μ-loop
 loop-holds c =
-    let s = (c .before .before .before .before .before .before .before) in
+    let s = (c .before .before .before .before .before .before) in
     let l = s .args .listed in (
       λ w x d e. sites-first (keep s) w x (sentencesBefore (s .args .f) (w .functions)) (c .head-site .result) (head-first (d .indexed) (s .args .f) x e true (c .head-site .result) (c .head-site .ensures .0)) (s .args .out .now) (l .at) (l .count) (l .function) (l .item),
       s .pre .5,
@@ -78,7 +75,7 @@ loop-holds c =
 
 put-if-uncovered-requires : tie.Need-put-if-uncovered-requires Inv-loop μ-loop
 put-if-uncovered-requires c κs =
-    let s = (c .before .before .before .before .before .before .before .before .before .before .before .before) in
+    let s = (c .before .before .before .before .before .before .before .before .before .before .before) in
     let p = s .pre .0 in
     let x = the-function s in
     let h = c .before .before .before .before .loop .inv in
@@ -97,17 +94,17 @@ put-if-uncovered-requires c κs =
     )
 
 next-site-requires : tie.Need-next-site-requires Inv-loop μ-loop
-next-site-requires c κs = let d = c .before .before .before .before .before .before .before .before .before .before .before .before .before .before .before .before .before .before .pre .0 .readable .indexed in omega (arith, d .fits, c .before .before .before .before .before .before .before .before .if1 .taken, c .before .before .before .before .before .before .before .before .before .before .before .before .before .before .calls-of .ensures, c .before .before .before .before .before .before .before .before .before .before .loop .inv .3 .length, c .before .before .before .before .before .put-if-uncovered .ensures .1 .1 .length)
+next-site-requires c κs = let d = c .before .before .before .before .before .before .before .before .before .before .before .before .before .before .before .before .before .pre .0 .readable .indexed in omega (arith, d .fits, c .before .before .before .before .before .before .before .before .if1 .taken, c .before .before .before .before .before .before .before .before .before .before .before .before .before .links-of .ensures, c .before .before .before .before .before .before .before .before .before .before .loop .inv .3 .length, c .before .before .before .before .before .put-if-uncovered .ensures .1 .1 .length)
 
 loop-less : tie.Need-loop-less Inv-loop μ-loop
 loop-less c =
-    let s = (c .before .before .before .before .before .before .before .before .before .before .before .before .before .before .before .before .before .before .before) in
+    let s = (c .before .before .before .before .before .before .before .before .before .before .before .before .before .before .before .before .before .before) in
     let x = the-function s in
     omega (arith, c .before .before .before .before .before .before .before .before .before .if1 .taken, next c (s .pre .0 .program) (x .element) (s .pre .0 .readable) (x .is) .later)
 
 loop-again : tie.Need-loop-again Inv-loop μ-loop
 loop-again c =
-    let s = (c .before .before .before .before .before .before .before .before .before .before .before .before .before .before .before .before .before .before .before) in
+    let s = (c .before .before .before .before .before .before .before .before .before .before .before .before .before .before .before .before .before .before) in
     let u = c .before .before .before .before .before .before .before .before .before .before .before .loop .inv .3 in
     let p = c .before .before .before .before .before .before .put-if-uncovered in (
       λ w x d e.
@@ -126,13 +123,13 @@ same-length c = c .before .before .loop .inv .3 .length
 
 same-length-2 : tie.Need-same-length-2 Inv-loop μ-loop
 same-length-2 c =
-    let s = (c .before .before .before .before .before .before .before .before .before .before) in
+    let s = (c .before .before .before .before .before .before .before .before .before) in
     let x = the-function s in
     emitted-length (c .before .before .loop .inv .0 (s .pre .0 .program) (x .element) (s .pre .0 .readable) (x .is) .told .listing .text)
 
 returns : tie.Need-returns Inv-loop μ-loop
 returns c =
-    let s = (c .before .before .before .before .before .before .before .before .before .before) in
+    let s = (c .before .before .before .before .before .before .before .before .before) in
     let p = s .pre .0 in
     let x = the-function s in
     let h = c .before .before .loop .inv in
@@ -147,8 +144,7 @@ put-uncovered-in-spec =
     (tie.spec
     Inv-loop
     μ-loop
-    calls-of-requires
-    add-links
+    links-of-requires
     head-site-requires
     loop-holds
     put-if-uncovered-requires

@@ -53,61 +53,49 @@ test s x y = overlaps (keep s) (x .name) (y .pattern)
 less : (s : tie.Start Inv-loop μ-loop) (x : Function) (y : Sentence) (z : Held) → isListed true (x .name) z ≡ false → test s x y z ≡ false
 less s x y z e = overlaps-less (keep s) (x .name) (y .pattern) z e
 
--- The pattern, where `place_of` says.
-abbrev pattern : (c : tie.After-place-of Inv-loop μ-loop) (w : Program) (y : Sentence) → let s = (c .before .before .before .before .before) in Readable (s .args .b .now) w (s .args .work .now) (s .args .plan) → getElem? (ownSentences (w .functions)) (s .args .s) ≡ some y
-    → TermsAt Mode.pattern (drop (c .place-of .result + 9) (s .args .b .now))
-pattern c w y d e = pattern-at d (c .before .before .before .before .before .args .s) y e (c .place-of .result) (c .place-of .ensures .0)
+-- The pattern, where `pattern_place` says.
+abbrev pattern : (c : tie.After-pattern-place Inv-loop μ-loop) (w : Program) (y : Sentence) → let s = (c .before .before .before .before) in Readable (s .args .b .now) w (s .args .work .now) (s .args .plan) → getElem? (ownSentences (w .functions)) (s .args .s) ≡ some y
+    → TermsAt Mode.pattern (drop (c .pattern-place .result) (s .args .b .now))
+pattern c w y d e = pattern-at d (c .before .before .before .before .args .s) y e (c .pattern-place .result) (c .pattern-place .ensures .0)
 
 -- The walk at the loop's head, for the program that the function was given.
-abbrev given : (h : tie.At-loop Inv-loop μ-loop) → let s = h .before .before .before .before .before .before .before .before .before .before in
+abbrev given : (h : tie.At-loop Inv-loop μ-loop) → let s = h .before .before .before .before .before .before .before .before in
     Going (isListed true (s .pre .0 .function .name)) (test s (s .pre .0 .function) (s .pre .0 .sentence)) 0 (sitesOf (s .pre .0 .program)) (h .loop .i)
 given h =
-    let s = h .before .before .before .before .before .before .before .before .before .before in
+    let s = h .before .before .before .before .before .before .before .before in
     h .loop .inv .0 (s .pre .0 .program) (s .pre .0 .function) (s .pre .0 .sentence) (s .pre .0 .readable) (s .pre .0 .owns)
 
-next-is : (c : tie.After-next-site Inv-loop μ-loop) → let a = c .before .before .before .before .before .before .before .before .before .before .before .before .before .before .before .before .before .before .before .args in c .next-site .result ≡ entryNext (getD (a .work .now) (links (a .plan) + c .before .before .before .before .before .before .before .before .before .loop .i) 0)
-next-is c = used-next (used-then (c .before .before .before .before .before .before .before .before .before .loop .inv .1) (c .before .before .before .before .before .overlaps-at .ensures .1)) (c .before .before .before .before .before .before .before .before .before .before .before .before .before .calls-of .result) (c .before .before .before .before .before .before .before .before .before .loop .i) (c .before .before .before .before .before .before .before .before .before .before .before .before .before .calls-of .ensures) (c .before .before .before .before .before .before .before .if1 .taken) (c .next-site .result) (c .next-site .ensures .0)
+next-is : (c : tie.After-next-site Inv-loop μ-loop) → let a = c .before .before .before .before .before .before .before .before .before .before .before .before .before .before .before .before .before .args in c .next-site .result ≡ entryNext (getD (a .work .now) (links (a .plan) + c .before .before .before .before .before .before .before .before .before .loop .i) 0)
+next-is c = used-next (used-then (c .before .before .before .before .before .before .before .before .before .loop .inv .1) (c .before .before .before .before .before .overlaps-at .ensures .1)) (c .before .before .before .before .before .before .before .before .before .before .before .before .links-of .result) (c .before .before .before .before .before .before .before .before .before .loop .i) (c .before .before .before .before .before .before .before .before .before .before .before .before .links-of .ensures) (c .before .before .before .before .before .before .before .if1 .taken) (c .next-site .result) (c .next-site .ensures .0)
 
 -- What `overlaps_at` says of the site at the loop's head.
-asked : (c : tie.After-overlaps-at Inv-loop μ-loop) (w : Program) (x : Function) (y : Sentence) → let s = (c .before .before .before .before .before .before .before .before .before .before .before .before .before .before) in (d : Readable (s .args .b .now) w (s .args .work .now) (s .args .plan)) (o : Owns w (s .args .f) x (s .args .s) y)
+asked : (c : tie.After-overlaps-at Inv-loop μ-loop) (w : Program) (x : Function) (y : Sentence) → let s = (c .before .before .before .before .before .before .before .before .before .before .before .before) in (d : Readable (s .args .b .now) w (s .args .work .now) (s .args .plan)) (o : Owns w (s .args .f) x (s .args .s) y)
     → c .overlaps-at .result ≡ test s x y (walk-element (d .indexed) (s .args .f) x (o .function) (test s x y) (less s x y) (c .before .before .before .before .loop .inv .0 w x y d o) (c .before .before .if1 .taken) .element)
 asked c w x y d o =
-    let s = (c .before .before .before .before .before .before .before .before .before .before .before .before .before .before) in
+    let s = (c .before .before .before .before .before .before .before .before .before .before .before .before) in
     let u = c .before .before .before .before .loop .inv .1 in
     let g = c .before .before .before .before .loop .inv .0 w x y d o in
     let z = walk-element (d .indexed) (s .args .f) x (o .function) (test s x y) (less s x y) g (c .before .before .if1 .taken) in
-    c .overlaps-at .ensures .0 w (s .args .f) x (z .element) (used-indexed u (d .indexed)) (o .function) (z .is) (walk-listed (d .indexed) (s .args .f) x (o .function) (test s x y) (less s x y) g (c .before .before .if1 .taken)) (pattern (c .before .before .before .before .before .before .before .before .before) w y d (o .sentence))
+    c .overlaps-at .ensures .0 w (s .args .f) x (z .element) (used-indexed u (d .indexed)) (o .function) (z .is) (walk-listed (d .indexed) (s .args .f) x (o .function) (test s x y) (less s x y) g (c .before .before .if1 .taken)) (pattern (c .before .before .before .before .before .before .before .before) w y d (o .sentence))
     ∙ ap (λ (t : ℕ → Bool). overlaps t (x .name) (y .pattern) (z .element)) (used-keep u afterAll)
 
-mul-place-of : tie.Need-mul-place-of Inv-loop μ-loop
-mul-place-of c = let d = c .before .before .before .before .pre .0 .readable .indexed in omega (arith, d .fits, d .small)
+pattern-place-requires : tie.Need-pattern-place-requires Inv-loop μ-loop
+pattern-place-requires c κs = let d = c .before .before .before .pre .0 .readable .indexed in (sentence-below (c .before .before .before), omega (arith, d .fits), d .small)
 
-add-place-of : tie.Need-add-place-of Inv-loop μ-loop
-add-place-of c = let d = c .before .before .before .before .pre .0 .readable .indexed in omega (arith, d .fits, d .small, sentence-below (c .before .before .before .before))
-
-place-of-requires : tie.Need-place-of-requires Inv-loop μ-loop
-place-of-requires c κs = let d = c .before .before .before .before .pre .0 .readable .indexed in omega (arith, d .fits, sentence-below (c .before .before .before .before))
-
-add-pattern : tie.Need-add-pattern Inv-loop μ-loop
-add-pattern c = search needs
-
-calls-of-requires : tie.Need-calls-of-requires Inv-loop μ-loop
-calls-of-requires c κs = let d = c .before .before .before .before .before .pre .0 .readable .indexed in (omega (arith, d .fits, d .small), omega (arith, d .fits, d .small))
-
-add-links : tie.Need-add-links Inv-loop μ-loop
-add-links c = let d = c .before .before .before .before .before .before .before .pre .0 .readable .indexed in omega (arith, d .fits, d .small, c .before .calls-of .ensures)
+links-of-requires : tie.Need-links-of-requires Inv-loop μ-loop
+links-of-requires c κs = let d = c .before .before .before .before .pre .0 .readable .indexed in (omega (arith, d .fits, d .small), omega (arith, d .fits, d .small), omega (arith, d .fits, d .small))
 
 witness-of-requires : tie.Need-witness-of-requires Inv-loop μ-loop
-witness-of-requires c κs = let s = c .before .before .before .before .before .before .before .before in let d = s .pre .0 .readable .indexed in (function-below s, sentence-below s, d .fits, d .small)
+witness-of-requires c κs = let s = c .before .before .before .before .before .before in let d = s .pre .0 .readable .indexed in (function-below s, sentence-below s, d .fits, d .small)
 
 loop-holds : tie.Need-loop-holds Inv-loop μ-loop
 loop-holds c =
-    let s = (c .before .before .before .before .before .before .before .before .before) in
+    let s = (c .before .before .before .before .before .before .before) in
     (λ w x y d o. walk-first d o (c .witness-of .result) (c .witness-of .ensures), used-same (s .pre .1))
 
 overlaps-at-requires : tie.Need-overlaps-at-requires Inv-loop μ-loop
 overlaps-at-requires c κs =
-    let s = (c .before .before .before .before .before .before .before .before .before .before .before .before .before) in
+    let s = (c .before .before .before .before .before .before .before .before .before .before .before) in
     let p = s .pre .0 in
     let x = p .function in
     let y = p .sentence in
@@ -123,7 +111,7 @@ overlaps-at-requires c κs =
         site = u .element;
         at = u .is;
         listed = walk-listed (p .readable .indexed) (s .args .f) x e (test s x y) (less s x y) (given (c .before .before .before)) (c .before .if1 .taken);
-        reading = pattern (c .before .before .before .before .before .before .before .before) (p .program) y (p .readable) (p .owns .sentence);
+        reading = pattern (c .before .before .before .before .before .before .before) (p .program) y (p .readable) (p .owns .sentence);
       },
       p .readable .short,
       v .remembers,
@@ -134,23 +122,23 @@ same-length c = c .before .before .before .overlaps-at .ensures .1 .length ∙ c
 
 returns : tie.Need-returns Inv-loop μ-loop
 returns c =
-    let s = (c .before .before .before .before .before .before .before .before .before .before .before .before .before .before .before .before .before) in (
+    let s = (c .before .before .before .before .before .before .before .before .before .before .before .before .before .before .before) in (
       λ w x y d o. walk-found (d .indexed) (s .args .f) x (o .function) (test s x y) (less s x y) (c .before .before .before .before .before .before .before .loop .inv .0 w x y d o) (c .before .before .before .before .before .if1 .taken) (sym (asked (c .before .before .before) w x y d o) ∙ c .if2 .taken),
       used-then (c .before .before .before .before .before .before .before .loop .inv .1) (c .before .before .before .overlaps-at .ensures .1),
     )
 
 next-site-requires : tie.Need-next-site-requires Inv-loop μ-loop
-next-site-requires c κs = let d = c .before .before .before .before .before .before .before .before .before .before .before .before .before .before .before .before .before .before .pre .0 .readable .indexed in omega (arith, d .fits, c .before .before .before .before .before .before .if1 .taken, c .before .before .before .before .before .before .before .before .before .before .before .before .calls-of .ensures, c .before .before .before .before .before .before .before .before .loop .inv .1 .length, c .before .before .before .before .overlaps-at .ensures .1 .length)
+next-site-requires c κs = let d = c .before .before .before .before .before .before .before .before .before .before .before .before .before .before .before .before .pre .0 .readable .indexed in omega (arith, d .fits, c .before .before .before .before .before .before .if1 .taken, c .before .before .before .before .before .before .before .before .before .before .before .links-of .ensures, c .before .before .before .before .before .before .before .before .loop .inv .1 .length, c .before .before .before .before .overlaps-at .ensures .1 .length)
 
-next : (c : tie.After-next-site Inv-loop μ-loop) (w : Program) (x : Function) (y : Sentence) → let s = (c .before .before .before .before .before .before .before .before .before .before .before .before .before .before .before .before .before .before .before) in Readable (s .args .b .now) w (s .args .work .now) (s .args .plan) → Owns w (s .args .f) x (s .args .s) y
+next : (c : tie.After-next-site Inv-loop μ-loop) (w : Program) (x : Function) (y : Sentence) → let s = (c .before .before .before .before .before .before .before .before .before .before .before .before .before .before .before .before .before) in Readable (s .args .b .now) w (s .args .work .now) (s .args .plan) → Owns w (s .args .f) x (s .args .s) y
     → Going (isListed true (x .name)) (test s x y) 0 (sitesOf w) (c .next-site .result) × (c .before .before .before .before .before .before .before .before .before .loop .i < c .next-site .result)
 next c w x y d o =
-    let s = (c .before .before .before .before .before .before .before .before .before .before .before .before .before .before .before .before .before .before .before) in
+    let s = (c .before .before .before .before .before .before .before .before .before .before .before .before .before .before .before .before .before) in
     walk-next (d .indexed) (s .args .f) x (o .function) (test s x y) (less s x y) (c .before .before .before .before .before .before .before .before .before .loop .inv .0 w x y d o) (c .before .before .before .before .before .before .before .if1 .taken) (sym (asked (c .before .before .before .before .before) w x y d o) ∙ c .before .before .if2 .left) (c .next-site .result) (next-is c)
 
 loop-less : tie.Need-loop-less Inv-loop μ-loop
 loop-less c =
-    let s = (c .before .before .before .before .before .before .before .before .before .before .before .before .before .before .before .before .before .before .before) in
+    let s = (c .before .before .before .before .before .before .before .before .before .before .before .before .before .before .before .before .before) in
     let n = next c (s .pre .0 .program) (s .pre .0 .function) (s .pre .0 .sentence) (s .pre .0 .readable) (s .pre .0 .owns) in
     omega (arith, c .before .before .before .before .before .before .before .if1 .taken, n .1)
 
@@ -162,7 +150,7 @@ same-length-2 c = c .before .before .loop .inv .1 .length
 
 returns-2 : tie.Need-returns-2 Inv-loop μ-loop
 returns-2 c =
-    let s = (c .before .before .before .before .before .before .before .before .before .before .before .before) in
+    let s = (c .before .before .before .before .before .before .before .before .before .before) in
     (λ w x y d o. walk-end (d .indexed) (s .args .f) x (o .function) (test s x y) (less s x y) (c .before .before .loop .inv .0 w x y d o) (c .if1 .left), c .before .before .loop .inv .1)
 
 pub is-decided-spec : {M : Type 1} → statement M
@@ -171,12 +159,8 @@ is-decided-spec =
     (tie.spec
     Inv-loop
     μ-loop
-    mul-place-of
-    add-place-of
-    place-of-requires
-    add-pattern
-    calls-of-requires
-    add-links
+    pattern-place-requires
+    links-of-requires
     witness-of-requires
     loop-holds
     overlaps-at-requires

@@ -28,6 +28,7 @@ ghost use Rattle.told.specs.ToldReport.{restrictionsAt};
 ghost use Rattle.text.specs.Fill.{Emitted, limit};
 ghost use Rattle.report.specs.Emitting.{Readable, SomeReadable};
 ghost use Rattle.report.specs.Leading.{isLeading, SomeListed, SomeSite, angledAfter, angledIf};
+ghost use Rattle.report.specs.Uncovered.{ArgumentAt};
 
 // Whether the site j of the list is there and of the class c.
 fn is_of_class(work: &[u32], plan: Plan, j: usize, c: usize, round: usize) -> bool
@@ -61,14 +62,22 @@ pub fn leads(work: &[u32], plan: Plan, i: usize, round: usize) -> bool
     true
 }
 
+// Where the argument of the plain site i begins in the body b.
+pub fn argument_of(b: &[u8], work: &[u32], plan: Plan, i: usize) -> usize
+    requires { ⌜ SomeSite (now b) (now work) plan i ⌝ }
+    ensures { λ r. ⌜ (r ≤ length (now (b .entry))) × ((w : Program) (f : ℕ) (x : Function) (y : Held) → Readable (now (b .entry)) w (now (work .entry)) plan → getElem? (w .functions) f ≡ some x → getElem? (sitesOf w) i ≡ some y → isListed true (x .name) y ≡ true → ArgumentAt (now (b .entry)) r (y .site .argument)) ⌝ }
+{
+    let k = calls_of(plan) + i;
+    site_argument(b, work[k])
+}
+
 // The argument of the site i between angle brackets, and a space before it.
 fn put_restriction(b: &[u8], work: &[u32], plan: Plan, i: usize, out: &mut [u8], at: usize) -> usize
     requires { ⌜ SomeSite (now b) (now work) plan i × (at + 32800 ≤ limit) ⌝ }
     ensures written { λ r. ⌜ ((w : Program) (f : ℕ) (x : Function) (y : Held) → Readable (now (b .entry)) w (now (work .entry)) plan → getElem? (w .functions) f ≡ some x → getElem? (sitesOf w) i ≡ some y → isListed true (x .name) y ≡ true → Emitted (now (out .entry)) at (angledAfter (y .site .argument)) r (now (out .exit))) ⌝ }
     ensures short { λ r. ⌜ r ≤ at + 32800 ⌝ }
 {
-    let k = calls_of(plan) + i;
-    let q = site_argument(b, work[k]);
+    let q = argument_of(b, work, plan, i);
     let open = put_byte(out, at, 32);
     let inside = put_byte(out, open, 60);
     let close = format_terms(out, inside, &b[q..]);

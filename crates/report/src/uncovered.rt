@@ -1,6 +1,7 @@
 // The uncovered restrictions: those that are Disjoint from every sentence of their function.
 use crate::AFTER_ALL;
 use crate::alike::same_function;
+use crate::leading::argument_of;
 use crate::leading::leads;
 use crate::sentence::put_name;
 use crate::undecided::Listed;
@@ -10,8 +11,6 @@ use cleaning::walks::is_judged;
 use cleaning::walks::is_there;
 use compare::same_text;
 use index::Plan;
-use index::classes::site_argument;
-use index::columns::calls_of;
 use index::columns::links_of;
 use index::columns::pattern_place;
 use index::columns::witnesses_of;
@@ -47,16 +46,7 @@ ghost use Rattle.text.specs.Fill.{Emitted, limit};
 ghost use Rattle.meaning.specs.Report.{uncoveredLine};
 ghost use Rattle.report.specs.Emitting.{Readable, SomeReadable};
 ghost use Rattle.report.specs.Leading.{SomeSite};
-ghost use Rattle.report.specs.Uncovered.{ArgumentAt, uncoveredOne, lastUncovered, isUncovered, uncoveredAt, PlainAt, Uncovered};
-
-// Where the argument of the plain site i begins in the body b.
-fn argument_of(b: &[u8], work: &[u32], plan: Plan, i: usize) -> usize
-    requires { ⌜ SomeSite (now b) (now work) plan i ⌝ }
-    ensures { λ r. ⌜ (r ≤ length (now (b .entry))) × ((w : Program) (f : ℕ) (x : Function) (y : Held) → Readable (now (b .entry)) w (now (work .entry)) plan → getElem? (w .functions) f ≡ some x → getElem? (sitesOf w) i ≡ some y → isListed true (x .name) y ≡ true → ArgumentAt (now (b .entry)) r (y .site .argument)) ⌝ }
-{
-    let k = calls_of(plan) + i;
-    site_argument(b, work[k])
-}
+ghost use Rattle.report.specs.Uncovered.{uncoveredOne, lastUncovered, isUncovered, uncoveredAt, PlainAt, Uncovered};
 
 // Whether the sentence s is left, and not Disjoint from the argument of the plain site i, which is left too. The witness
 // tells it of the sites up to its own; the others are asked.

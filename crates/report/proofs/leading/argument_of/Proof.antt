@@ -1,4 +1,4 @@
--- `report::uncovered::argument_of` meets its contract. Assumes nothing.
+-- `report::leading::argument_of` meets its contract. Assumes nothing.
 use Prim.Native.Nat.{ℕ, _+_, _<_}
 use native.Mathlib.Omega.{arith}
 use mathlib.Core.Path.{_≡_, refl, sym, _∙_}
@@ -14,8 +14,8 @@ use Rattle.index.proofs.Alike.{call-of, reading-of}
 use Rattle.told.specs.Numbered.{sitesOf}
 use Rattle.cleaning.proofs.Meeting.{list-at, site-below}
 use Rattle.report.specs.Emitting.{Readable}
-use Rattle.report.proofs.uncovered.argument_of.Statement.{statement}
-use Rattle.report.proofs.uncovered.argument_of.Tie as tie
+use Rattle.report.proofs.leading.argument_of.Statement.{statement}
+use Rattle.report.proofs.leading.argument_of.Tie as tie
 
 here-below : (s : tie.Start) → s .args .i < s .args .plan .sites
 here-below s = let a = s .pre in site-below (a .readable .indexed) (a .place) (a .function) (a .is) (s .args .i) (a .site) (a .at)

@@ -18,8 +18,8 @@ use Rattle.patterns.specs.Names.{caseless, eqBytes}
 use Rattle.patterns.specs.Symbols.{eqSymbol}
 use Rattle.patterns.specs.Equality.{eqSpan, eqKind, eqTerms}
 use Rattle.patterns.specs.Configuration.{position, seenWith, namesAfter, canonicalFrom, canonicalConfiguration, sameConfiguration}
-use Rattle.configuration.specs.Lockstep.{opened, sameToken, firstName, Pair, pairs, alike, Step, StepAt, Path, namesMet, closesAfter, Walked, WalkedTo}
-use Rattle.configuration.proofs.Tokens.{mark, mark-is, symbol-low, kind-range, tokens-differ, opened-less, names-together}
+use Rattle.configuration.specs.Lockstep.{afterToken, sameToken, firstName, Pair, pairs, alike, Step, StepAt, Path, namesMet, closesAfter, Walked, WalkedTo}
+use Rattle.configuration.proofs.Tokens.{mark, mark-is, symbol-low, kind-range, tokens-differ, token-less, names-together}
 use Rattle.configuration.proofs.Closes.{closes-open, closes-close, closes-same}
 use Rattle.configuration.proofs.Scan.{part, to-part, from-part}
 use Rattle.configuration.proofs.Numbering.{Numbered, numbered-none, numbering-decides, numbered-more}
@@ -105,14 +105,14 @@ turn (bracket s i r) (block z a₁ b₁ u) ts us la lb = refl
 turn (call s f a r) w ts us la lb = refl
 turn (block s a b r) w ts us la lb = refl
 
-opened-all : (t : Terms) (ts : List Terms) (k : List ℕ) → ValidTerms t Mode.pattern 0 → opened t (putAll ts k) ≡ putAll (open-first t ts) k
-unfolding opened open-first
-opened-all nil ts k h = refl
-opened-all (symbol s x r) ts k h = refl
-opened-all (variable s v n r) ts k h = refl
-opened-all (bracket s i r) ts k h = refl
-opened-all (call s f a r) ts k h = absurd (h .2)
-opened-all (block s a b r) ts k h = absurd (h .2)
+token-all : (t : Terms) (ts : List Terms) (k : List ℕ) → ValidTerms t Mode.pattern 0 → afterToken t (putAll ts k) ≡ putAll (open-first t ts) k
+unfolding afterToken open-first
+token-all nil ts k h = refl
+token-all (symbol s x r) ts k h = refl
+token-all (variable s v n r) ts k h = refl
+token-all (bracket s i r) ts k h = refl
+token-all (call s f a r) ts k h = absurd (h .2)
+token-all (block s a b r) ts k h = absurd (h .2)
 
 open-fits : (t : Terms) (ts : List Terms) → ValidTerms t Mode.pattern 0 → AllFit ts → AllFit (open-first t ts)
 unfolding open-first
@@ -297,12 +297,12 @@ module _ {a b : List ℕ} {i j closes : ℕ} {p : TermsAt Mode.pattern a} {q : T
       numbering-fails e = numbered-told ∙ ap (λ (z : Bool). z && sameAll (open-first (top-one .first) (top-one .more)) (seenAll (firstName (top-one .first)) (s .seen-one)) (open-first (top-two .first) (top-two .more)) (seenAll (firstName (top-two .first)) (s .seen-two))) e
 
       module _ (e : alike (firstName (top-one .first)) (firstName (top-two .first)) (namesMet (s .walked .steps)) ≡ true)
-          (d : ℕ) (u : Passes (part a i) d (opened (top-one .first) (putAll (top-one .more) (p .rest)))) (c : ℕ) (v : Passes (part b j) c (opened (top-two .first) (putAll (top-two .more) (q .rest)))) where
+          (d : ℕ) (u : Passes (part a i) d (afterToken (top-one .first) (putAll (top-one .more) (p .rest)))) (c : ℕ) (v : Passes (part b j) c (afterToken (top-two .first) (putAll (top-two .more) (q .rest)))) where
         pub moves-on : (0 < d) × (i + d ≤ length a) × (j + c ≤ length b)
         moves-on =
             let x = from-part a i d u in
             let y = from-part b j c v in (
-              omega (arith, x .fits, length-drop d (drop i a), ap length (x .left), ap length one-is, opened-less (top-one .first) (putAll (top-one .more) (p .rest)) fits-first),
+              omega (arith, x .fits, length-drop d (drop i a), ap length (x .left), ap length one-is, token-less (top-one .first) (putAll (top-one .more) (p .rest)) fits-first),
               omega (arith, x .fits, length-drop i a, here-within .0),
               omega (arith, y .fits, length-drop j b, here-within .1),
             )
@@ -316,8 +316,8 @@ module _ {a b : List ℕ} {i j closes : ℕ} {p : TermsAt Mode.pattern a} {q : T
             record {
               one = open-first (top-one .first) (top-one .more);
               two = open-first (top-two .first) (top-two .more);
-              is-one = sym (drop-drop d i a) ∙ (x .left ∙ opened-all (top-one .first) (top-one .more) (p .rest) fits-first);
-              is-two = sym (drop-drop c j b) ∙ (y .left ∙ opened-all (top-two .first) (top-two .more) (q .rest) fits-second);
+              is-one = sym (drop-drop d i a) ∙ (x .left ∙ token-all (top-one .first) (top-one .more) (p .rest) fits-first);
+              is-two = sym (drop-drop c j b) ∙ (y .left ∙ token-all (top-two .first) (top-two .more) (q .rest) fits-second);
               fits-one = open-fits (top-one .first) (top-one .more) fits-first (fit-one .1);
               fits-two = open-fits (top-two .first) (top-two .more) fits-second (fit-two .1);
               count-one = open-count (top-one .first) (top-one .more) closes fits-first (sym (ap length (top-one .is)) ∙ s .count-one) ∙ (ap (λ (z : ℕ). closesAfter z closes) (sym m) ∙ sym k);

@@ -9,7 +9,7 @@ use Rattle.program.specs.Syntax.{Name}
 use Rattle.program.specs.Limits.{Mode}
 use Rattle.image.specs.Parts.{Passes, TermsAt}
 use Rattle.symbols.proofs.Parts.{part-rest}
-use Rattle.configuration.specs.Lockstep.{opened, firstName, Pair, pairs, meets, firstBoth, Step, StepAt, Path, namesMet, Walked}
+use Rattle.configuration.specs.Lockstep.{afterToken, firstName, Pair, pairs, meets, firstBoth, Step, StepAt, Path, namesMet, Walked}
 
 abbrev pub part : List ℕ → ℕ → List ℕ
 part s i = take (length s - i) (drop i s)
@@ -95,7 +95,7 @@ module _ {a b : List ℕ} {i j x y : ℕ} {n m : Name} {w : Walked a b i j} (s :
       pub second-met : p ≡ false → q ≡ true → firstBoth n m (namesMet (w .steps)) ≡ false
       second-met e f = told ∙ (ap (λ (t : Bool). cond t q (cond q false (firstBoth n m (namesMet (ahead .more))))) e ∙ ap (λ (t : Bool). cond t false (firstBoth n m (namesMet (ahead .more)))) f)
 
-      module _ (d c : ℕ) (u : Passes (part a x) d (opened (ahead .here .one .terms) (ahead .here .one .rest))) (v : Passes (part b y) c (opened (ahead .here .two .terms) (ahead .here .two .rest))) where
+      module _ (d c : ℕ) (u : Passes (part a x) d (afterToken (ahead .here .one .terms) (ahead .here .one .rest))) (v : Passes (part b y) c (afterToken (ahead .here .two .terms) (ahead .here .two .rest))) where
         first-is : d ≡ ahead .step .first
         first-is = one-length (drop x a) d (ahead .step .first) (from-part a x d u) (ahead .here .past-one)
 

@@ -17,7 +17,7 @@ use Rattle.patterns.specs.Symbols.{eqSymbol}
 use Rattle.symbols.specs.Parts.{SymbolAt}
 use Rattle.symbols.proofs.Parts.{part-rest}
 use Rattle.patterns.specs.Equality.{eqSpan, eqKind}
-use Rattle.configuration.specs.Lockstep.{opened, sameToken, firstName, meets, SpanAt}
+use Rattle.configuration.specs.Lockstep.{afterToken, sameToken, firstName, meets, SpanAt}
 
 -- The mark of a symbol, and of what terms begin with.
 abbrev pub symbolMark : Symbol → ℕ
@@ -245,45 +245,45 @@ unfolding sameToken
 both-closed t u a b = ap (λ (x : Terms). sameToken x u) (closed-is t a) ∙ ap (sameToken nil) (closed-is u b)
 
 -- Behind the first token.
-close-opened : (t : Terms) (k : List ℕ) → mark t ≡ 15 → drop 1 (putTerms t k) ≡ opened t k
-unfolding putTerms opened kindMark
-close-opened nil k e = refl
-close-opened (symbol s x r) k e = absurd (omega (arith, e, symbol-low x))
-close-opened (variable s s-kind n r) k e = absurd (omega (arith, e))
-close-opened (variable s t-kind n r) k e = absurd (omega (arith, e))
-close-opened (variable s e-kind n r) k e = absurd (omega (arith, e))
-close-opened (bracket s i r) k e = absurd (omega (arith, e))
-close-opened (call s f a r) k e = absurd (omega (arith, e))
-close-opened (block s a b r) k e = absurd (omega (arith, e))
+close-token : (t : Terms) (k : List ℕ) → mark t ≡ 15 → drop 1 (putTerms t k) ≡ afterToken t k
+unfolding putTerms afterToken kindMark
+close-token nil k e = refl
+close-token (symbol s x r) k e = absurd (omega (arith, e, symbol-low x))
+close-token (variable s s-kind n r) k e = absurd (omega (arith, e))
+close-token (variable s t-kind n r) k e = absurd (omega (arith, e))
+close-token (variable s e-kind n r) k e = absurd (omega (arith, e))
+close-token (bracket s i r) k e = absurd (omega (arith, e))
+close-token (call s f a r) k e = absurd (omega (arith, e))
+close-token (block s a b r) k e = absurd (omega (arith, e))
 
-bracket-opened : (t : Terms) (k : List ℕ) → mark t ≡ 7 → Passes (putTerms t k) 9 (opened t k)
-unfolding putTerms opened kindMark putSpan put32
-bracket-opened nil k e = absurd (omega (arith, e))
-bracket-opened (symbol s x r) k e = absurd (omega (arith, e, symbol-low x))
-bracket-opened (variable s s-kind n r) k e = absurd (omega (arith, e))
-bracket-opened (variable s t-kind n r) k e = absurd (omega (arith, e))
-bracket-opened (variable s e-kind n r) k e = absurd (omega (arith, e))
-bracket-opened (bracket s i r) k e = record { fits = omega arith; left = refl }
-bracket-opened (call s f a r) k e = absurd (omega (arith, e))
-bracket-opened (block s a b r) k e = absurd (omega (arith, e))
+bracket-token : (t : Terms) (k : List ℕ) → mark t ≡ 7 → Passes (putTerms t k) 9 (afterToken t k)
+unfolding putTerms afterToken kindMark putSpan put32
+bracket-token nil k e = absurd (omega (arith, e))
+bracket-token (symbol s x r) k e = absurd (omega (arith, e, symbol-low x))
+bracket-token (variable s s-kind n r) k e = absurd (omega (arith, e))
+bracket-token (variable s t-kind n r) k e = absurd (omega (arith, e))
+bracket-token (variable s e-kind n r) k e = absurd (omega (arith, e))
+bracket-token (bracket s i r) k e = record { fits = omega arith; left = refl }
+bracket-token (call s f a r) k e = absurd (omega (arith, e))
+bracket-token (block s a b r) k e = absurd (omega (arith, e))
 
-flat-opened : (t : Terms) (k : List ℕ) → Fits t → (mark t ≡ 15 → ⊥) → (mark t ≡ 7 → ⊥) → putTerms (tail t) k ≡ opened t k
-unfolding opened tail
-flat-opened nil k h m n = absurd (m refl)
-flat-opened (symbol s x r) k h m n = refl
-flat-opened (variable s v a r) k h m n = refl
-flat-opened (bracket s i r) k h m n = absurd (n refl)
-flat-opened (call s f a r) k h m n = absurd (h .2)
-flat-opened (block s a b r) k h m n = absurd (h .2)
+flat-token : (t : Terms) (k : List ℕ) → Fits t → (mark t ≡ 15 → ⊥) → (mark t ≡ 7 → ⊥) → putTerms (tail t) k ≡ afterToken t k
+unfolding afterToken tail
+flat-token nil k h m n = absurd (m refl)
+flat-token (symbol s x r) k h m n = refl
+flat-token (variable s v a r) k h m n = refl
+flat-token (bracket s i r) k h m n = absurd (n refl)
+flat-token (call s f a r) k h m n = absurd (h .2)
+flat-token (block s a b r) k h m n = absurd (h .2)
 
-pub opened-less : (t : Terms) (k : List ℕ) → Fits t → length (opened t k) < length (putTerms t k)
-unfolding putTerms opened
-opened-less nil k h = omega arith
-opened-less (symbol s x r) k h = omega (arith, symbol-length s x (putTerms r k))
-opened-less (variable s v n r) k h = omega (arith, span-length s (putName n (putTerms r k)), name-length n (putTerms r k))
-opened-less (bracket s i r) k h = omega (arith, span-length s (putTerms i (putTerms r k)))
-opened-less (call s f a r) k h = absurd (h .2)
-opened-less (block s a b r) k h = absurd (h .2)
+pub token-less : (t : Terms) (k : List ℕ) → Fits t → length (afterToken t k) < length (putTerms t k)
+unfolding putTerms afterToken
+token-less nil k h = omega arith
+token-less (symbol s x r) k h = omega (arith, symbol-length s x (putTerms r k))
+token-less (variable s v n r) k h = omega (arith, span-length s (putName n (putTerms r k)), name-length n (putTerms r k))
+token-less (bracket s i r) k h = omega (arith, span-length s (putTerms i (putTerms r k)))
+token-less (call s f a r) k h = absurd (h .2)
+token-less (block s a b r) k h = absurd (h .2)
 
 count-names : (t : Terms) → ((3 < mark t) × (mark t ≤ 6) × (length (firstName t) ≡ 1)) ⊎ (((3 < mark t → mark t ≤ 6 → ⊥)) × (length (firstName t) ≡ 0))
 unfolding firstName
@@ -345,16 +345,16 @@ module _ {s : List ℕ} (t : TermsAt Mode.pattern s) where
   pub pattern-room : 0 < length s
   pattern-room = omega (arith, ap length (t .is), terms-length (t .terms) (t .rest))
 
-  pub close-passed : getD s 0 0 ≡ 15 → Passes s 1 (opened (t .terms) (t .rest))
-  close-passed e = record { fits = omega (arith, pattern-room); left = ap (drop 1) (t .is) ∙ close-opened (t .terms) (t .rest) (sym (mark-is t) ∙ e) }
+  pub close-passed : getD s 0 0 ≡ 15 → Passes s 1 (afterToken (t .terms) (t .rest))
+  close-passed e = record { fits = omega (arith, pattern-room); left = ap (drop 1) (t .is) ∙ close-token (t .terms) (t .rest) (sym (mark-is t) ∙ e) }
 
-  pub bracket-passed : getD s 0 0 ≡ 7 → Passes s 9 (opened (t .terms) (t .rest))
+  pub bracket-passed : getD s 0 0 ≡ 7 → Passes s 9 (afterToken (t .terms) (t .rest))
   bracket-passed e =
-      let h = bracket-opened (t .terms) (t .rest) (sym (mark-is t) ∙ e) in
+      let h = bracket-token (t .terms) (t .rest) (sym (mark-is t) ∙ e) in
       record { fits = omega (arith, ap length (t .is), h .fits); left = ap (drop 9) (t .is) ∙ h .left }
 
-  pub flat-passed : (n : ℕ) → (getD s 0 0 ≡ 15 → ⊥) → (getD s 0 0 ≡ 7 → ⊥) → Passes s n (putTerms (tail (t .terms)) (t .rest)) → Passes s n (opened (t .terms) (t .rest))
-  flat-passed n a b h = record { fits = h .fits; left = h .left ∙ flat-opened (t .terms) (t .rest) (t .valid) (λ e. a (mark-is t ∙ e)) (λ e. b (mark-is t ∙ e)) }
+  pub flat-passed : (n : ℕ) → (getD s 0 0 ≡ 15 → ⊥) → (getD s 0 0 ≡ 7 → ⊥) → Passes s n (putTerms (tail (t .terms)) (t .rest)) → Passes s n (afterToken (t .terms) (t .rest))
+  flat-passed n a b h = record { fits = h .fits; left = h .left ∙ flat-token (t .terms) (t .rest) (t .valid) (λ e. a (mark-is t ∙ e)) (λ e. b (mark-is t ∙ e)) }
 
   module _ (m : getD s 0 0 ≡ 15 → ⊥) where
     pub span-here : (r : List ℕ) × ((putTerms (t .terms) (t .rest) ≡ mark (t .terms) ∷ putSpan (spanOf (t .terms)) r) × ValidSpan (spanOf (t .terms)))

@@ -15,13 +15,13 @@ use Rattle.patterns.specs.Symbols.{eqSymbol}
 use Rattle.patterns.specs.Equality.{eqSpan, eqKind}
 
 -- What stands behind the first token.
-unfoldable pub opened : Terms → List ℕ → List ℕ
-opened nil k = k
-opened (symbol s x r) k = putTerms r k
-opened (variable s v n r) k = putTerms r k
-opened (bracket s i r) k = putTerms i (putTerms r k)
-opened (call s f a r) k = k
-opened (block s a b r) k = k
+unfoldable pub afterToken : Terms → List ℕ → List ℕ
+afterToken nil k = k
+afterToken (symbol s x r) k = putTerms r k
+afterToken (variable s v n r) k = putTerms r k
+afterToken (bracket s i r) k = putTerms i (putTerms r k)
+afterToken (call s f a r) k = k
+afterToken (block s a b r) k = k
 
 -- The first tokens are the same but for variables' names.
 unfoldable pub sameToken : Terms → Terms → Bool
@@ -99,8 +99,8 @@ pub record Step : Type 0 where
 pub record StepAt (a b : List ℕ) (x y : ℕ) (t : Step) : Type 0 where
   pub one : TermsAt Mode.pattern (drop x a)
   pub two : TermsAt Mode.pattern (drop y b)
-  pub past-one : Passes (drop x a) (t .first) (opened (one .terms) (one .rest))
-  pub past-two : Passes (drop y b) (t .second) (opened (two .terms) (two .rest))
+  pub past-one : Passes (drop x a) (t .first) (afterToken (one .terms) (one .rest))
+  pub past-two : Passes (drop y b) (t .second) (afterToken (two .terms) (two .rest))
   pub moves : 0 < t .first
   pub names : t .names ≡ pairs (firstName (one .terms)) (firstName (two .terms))
   pub together : length (firstName (one .terms)) ≡ length (firstName (two .terms))

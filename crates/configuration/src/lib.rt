@@ -14,12 +14,12 @@ ghost use Rattle.patterns.specs.Symbols.{eqSymbol};
 ghost use Rattle.symbols.specs.Parts.{SymbolAt};
 ghost use Rattle.patterns.specs.Equality.{eqSpan};
 ghost use Rattle.patterns.specs.Configuration.{sameConfiguration};
-ghost use Rattle.configuration.specs.Lockstep.{opened, sameToken, firstName, meets, firstBoth, alike, namesMet, closesAfter, Walked, WalkedTo, SpanAt};
+ghost use Rattle.configuration.specs.Lockstep.{afterToken, sameToken, firstName, meets, firstBoth, alike, namesMet, closesAfter, Walked, WalkedTo, SpanAt};
 
 // The length of the first token of the terms at the start of s.
 fn token_len(s: &[u8]) -> usize
     requires { ⌜ TermsAt Mode.pattern (now s) ⌝ }
-    ensures { λ r. ⌜ ((t : TermsAt Mode.pattern (now (s .entry))) → Passes (now (s .entry)) r (opened (t .terms) (t .rest))) ⌝ }
+    ensures { λ r. ⌜ ((t : TermsAt Mode.pattern (now (s .entry))) → Passes (now (s .entry)) r (afterToken (t .terms) (t .rest))) ⌝ }
 {
     let m = s[0];
     if m == 15 {

@@ -77,6 +77,11 @@ fn usual_letters() -> Vec<Symbol> {
     letters
 }
 
+/// Few whole numbers in many spellings, so that leading zeros decide much.
+fn numbers_alone() -> Vec<Symbol> {
+    ["7", "007", "07", "0", "00"].map(|text| Symbol::Number(name(text))).to_vec()
+}
+
 pub fn swapped(name: &Name) -> Name {
     let swap = |byte: &u8| match byte.is_ascii_alphabetic() {
         true => byte ^ 32,
@@ -90,6 +95,9 @@ impl Maker<'_> {
         let mut letters = usual_letters();
         for _ in 0..dice.between(0, 8) {
             letters.remove(dice.between(0, letters.len() - 1));
+        }
+        if dice.chance(10) {
+            letters = numbers_alone();
         }
         let spans = dice.pick(&[Spans::Zero, Spans::Few, Spans::Any]);
         let wild = dice.pick(&[0, 0, 0, 3, 25]);

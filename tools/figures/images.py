@@ -16,6 +16,7 @@ from reader import (
     Bracket,
     Call,
     Character,
+    Condition,
     Function,
     Identifier,
     Program,
@@ -238,6 +239,14 @@ def nested_blocks(depth):
     return Program([], [Function(b"F", [Sentence([], [], inside)], True)])
 
 
+def nested_conditions(depth):
+    """Each block stands in a condition of the block around it."""
+    inside = []
+    for _ in range(depth):
+        inside = [Block([], [Sentence([], [Condition(inside, [])], [])])]
+    return Program([], [Function(b"F", [Sentence([], [Condition(inside, [])], [])], True)])
+
+
 # ----------------------------------------------------------------------- kinds
 
 HOURS = "hours"
@@ -295,6 +304,7 @@ KINDS = {
     "both": stack_only(lambda: both_separated(650), "650 separated `e.` against 650"),
     "calls32": stack_only(lambda: nested_calls(32), "32 nested calls"),
     "blocks32": stack_only(lambda: nested_blocks(32), "32 nested blocks"),
+    "conditions32": stack_only(lambda: nested_conditions(32), "32 blocks nested in conditions"),
     "text32": stack_only(lambda: asked([level(32, 0)], [[A]]), "a line with 32 bracket levels"),
     "self2900": stack_only(lambda: one_pattern([E] * 2900), "2,900 adjacent `e.`"),
     "self1300": stack_only(lambda: one_pattern([E, A] * 1300), "1,300 separated `e.`"),

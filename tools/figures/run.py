@@ -32,7 +32,8 @@ ASKED = ("profile",)  # printed only where asked for
 
 # The images whose stack is measured, for Clean and for Overlap of the first sentence with the last.
 CLEANED = (
-    "typical32k adjacent separated both levels1 levels8 levels44 calls32 blocks32 text32".split()
+    "typical32k adjacent separated both levels1 levels8 levels44 calls32 blocks32 conditions32"
+    " text32".split()
 )
 OVERLAPPED = "self2900 self1300 self1 self8 self44 self88 pair3 pair4 pair5 pair6 pair10".split()
 

@@ -1,4 +1,9 @@
-//! The show cleaner, safe to call: slices in, an enum out.
+//! The show cleaner, safe to call: slices in, a `Result` out. No heap, no standard library.
+#![no_std]
+
+mod refusal;
+
+pub use refusal::{words, Place, Refusal};
 
 /// The longest image that is not refused for its size.
 pub const LARGEST_IMAGE: usize = 32768;
@@ -8,33 +13,28 @@ pub const fn work_needed(image: usize) -> usize {
     image.div_ceil(4)
 }
 
-/// Why a call was refused, by its number, and the place at fault or the length needed.
+/// How much of the lent output and of the lent report was written.
 #[derive(Clone, Copy, Debug, PartialEq, Eq)]
-pub struct Refusal {
-    pub number: u8,
-    pub place: u64,
-}
-
-/// Report text longer than the report; the place is the length needed.
-pub const REPORT_SHORT: u8 = 12;
-
-#[derive(Clone, Copy, Debug, PartialEq, Eq)]
-pub enum Cleaned {
-    Done { output: usize, report: usize },
-    Refused(Refusal),
+pub struct Cleaned {
+    pub output: usize,
+    pub report: usize,
 }
 
 #[derive(Clone, Copy, Debug, PartialEq, Eq)]
 pub enum Verdict {
+    /// Nothing matches both patterns.
     Disjoint,
+    /// Something matches both, each occurrence of a variable read by itself.
     Overlap,
+    /// 4,096 entries were not enough to tell.
     Unknown,
 }
 
+/// The verdict, and the entries that the outermost pair spent.
 #[derive(Clone, Copy, Debug, PartialEq, Eq)]
-pub enum Compared {
-    Done { verdict: Verdict, spent: u32 },
-    Refused(Refusal),
+pub struct Compared {
+    pub verdict: Verdict,
+    pub spent: u32,
 }
 
 // A slice goes as its pointer and its length.
@@ -52,18 +52,17 @@ extern "C" {
     fn showclean_overlap(image: *const u8, image_length: usize, first: usize, second: usize) -> u64;
 }
 
-// Bits 8 to 23.
-fn middle(answer: u64) -> usize {
-    (answer >> 8 & 0xffff) as usize
-}
-
-fn refused(answer: u64) -> Option<Refusal> {
-    let number = (answer & 0xff) as u8;
-    (number != 0).then_some(Refusal { number, place: answer >> 24 })
+/// The parts of an answer that was not refused: bits 8 to 23, and 24 to 63.
+fn parts(answer: u64) -> Result<(usize, u64), Refusal> {
+    let (number, rest) = ((answer & 0xff) as u8, answer >> 24);
+    match number {
+        0 => Ok(((answer >> 8 & 0xffff) as usize, rest)),
+        _ => Err(Refusal { number, place: rest }),
+    }
 }
 
 /// Removes the sentences that no call can reach; the cleaned image and the report are at the beginnings of what is lent.
-pub fn clean(image: &[u8], output: &mut [u8], work: &mut [u32], report: &mut [u8]) -> Cleaned {
+pub fn clean(image: &[u8], output: &mut [u8], work: &mut [u32], report: &mut [u8]) -> Result<Cleaned, Refusal> {
     // SAFETY: each pointer and length are those of one slice, and no two slices share memory.
     let answer = unsafe {
         showclean_clean(
@@ -77,25 +76,28 @@ pub fn clean(image: &[u8], output: &mut [u8], work: &mut [u32], report: &mut [u8
             report.len(),
         )
     };
-    match refused(answer) {
-        Some(refusal) => Cleaned::Refused(refusal),
-        None => Cleaned::Done { output: middle(answer), report: (answer >> 24) as usize },
-    }
+    let (output, report) = parts(answer)?;
+    Ok(Cleaned { output, report: report as usize })
 }
 
 /// Compares the patterns of two sentences, numbered in file order from 0.
-pub fn overlap(image: &[u8], first: usize, second: usize) -> Compared {
+pub fn overlap(image: &[u8], first: usize, second: usize) -> Result<Compared, Refusal> {
     // SAFETY: the pointer and the length are those of one slice.
     let answer = unsafe { showclean_overlap(image.as_ptr(), image.len(), first, second) };
-    match refused(answer) {
-        Some(refusal) => Compared::Refused(refusal),
-        None => {
-            let verdict = match middle(answer) {
-                0 => Verdict::Disjoint,
-                1 => Verdict::Overlap,
-                _ => Verdict::Unknown,
-            };
-            Compared::Done { verdict, spent: (answer >> 24) as u32 }
-        }
+    let (verdict, spent) = parts(answer)?;
+    let verdict = match verdict {
+        0 => Verdict::Disjoint,
+        1 => Verdict::Overlap,
+        _ => Verdict::Unknown,
+    };
+    Ok(Compared { verdict, spent: spent as u32 })
+}
+
+/// Whether an image is accepted, with no memory lent.
+pub fn check(image: &[u8]) -> Result<(), Refusal> {
+    // No accepted image has that many sentences, and of the refusals 13 is the last to be tested.
+    match overlap(image, usize::MAX, usize::MAX) {
+        Err(Refusal { number: Refusal::NO_SENTENCE, .. }) => Ok(()),
+        answer => answer.map(|_| ()),
     }
 }

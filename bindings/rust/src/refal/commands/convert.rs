@@ -1,0 +1,36 @@
+//! Texts to images and back.
+
+use super::Outcome;
+use crate::failure::Failure;
+use crate::files;
+use crate::input::{is_text, Input};
+use crate::text::text_of;
+use crate::words::Words;
+
+pub fn encode(words: &Words) -> Result<Outcome, Failure> {
+    let name = words.place(0).unwrap_or(files::STANDARD);
+    let text = files::read(name)?;
+    if showclean::check(&text).is_ok() {
+        return Err(Failure::Refused(format!("{name} is an image already; `refal decode` makes a text of it")));
+    }
+    let input = Input::of_text(name, text)?;
+    written(words.place(1), Outcome::image(input.image))
+}
+
+pub fn decode(words: &Words) -> Result<Outcome, Failure> {
+    let name = words.place(0).unwrap_or(files::STANDARD);
+    let image = files::read(name)?;
+    if is_text(&image) {
+        return Err(Failure::Refused(format!("{name} is text and no image; `refal encode` makes an image of it")));
+    }
+    let input = Input::of_image(name, image, None)?;
+    written(words.place(1), Outcome::text(text_of(&input.program)))
+}
+
+/// Leads an outcome's output to a file, if one is named.
+pub fn written(out: Option<&str>, outcome: Outcome) -> Result<Outcome, Failure> {
+    match out {
+        None | Some(files::STANDARD) => Ok(outcome),
+        Some(name) => files::write(name, &outcome.output).map(|()| Outcome::default()),
+    }
+}

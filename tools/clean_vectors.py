@@ -15,9 +15,9 @@ and then the report, and they become the current ones; a record with number 0 is
 about the current ones, and says their lengths again.
 
 Refusals 1 and 4 to 11 come from reader.py only, and 2 and 3 from the lengths; cleaned
-images and reports, and so refusal 12, come from the Rust only, the reports' last lines
-as document 02 asks for them (tools/oracle/main.rs, `departing_line`). An image that the Rust
-does not clean in time is left out. Every group below is a function that yields images,
+images and reports, and so refusal 12, come from the Rust only, but for the departures that
+document 02 asks for (tools/oracle/departures.rs). An image that the Rust does not clean in
+time is left out. Every group below is a function that yields images,
 and each image is asked with several lent lengths; counts by group go to standard error.
 """
 
@@ -131,6 +131,7 @@ class Corpus:
     """The stream so far, and what was asked."""
 
     def __init__(self, oracle):
+        self.oracle = oracle
         self.asking = Asking(oracle)
         self.data = bytearray()
         self.current = b""
@@ -140,6 +141,7 @@ class Corpus:
         self.images = Counter()
         self.answers = Counter()
         self.rounds = Counter()
+        self.departures = Counter()
         self.shortened = 0
         self.left_out = 0
 
@@ -180,6 +182,7 @@ class Corpus:
         if not isinstance(self.asking.read(image), Refusal):
             cleaned, text = self.asking.clean(image)
             self.rounds[int(re.search(rb"^rounds: (\d+)$", text, re.M)[1])] += 1
+            self.departures[self.oracle.departure] += 1
             self.shortened += len(cleaned) < len(image)
 
 
@@ -965,7 +968,9 @@ def main():
     answers = ", ".join(f"{number}: {count}" for number, count in sorted(corpus.answers.items()))
     rounds = ", ".join(f"{number}: {count}" for number, count in sorted(corpus.rounds.items()))
     print(f"records by number: {answers}; left out: {corpus.left_out}", file=sys.stderr)
+    departed = ", ".join(f"{request}: {count}" for request, count in sorted(corpus.departures.items()))
     print(f"accepted images by rounds: {rounds}; shortened: {corpus.shortened}", file=sys.stderr)
+    print(f"last lines by the request that changed them (0: the Rust's own): {departed}", file=sys.stderr)
     sys.stdout.buffer.write(corpus.data)
 
 

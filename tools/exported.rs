@@ -14,7 +14,7 @@ pub fn image_of(program: &CoreProgram) -> Vec<u8> {
 
 /// The text of a report, its last line as document 02 asks for it.
 pub fn text_of(report: &CleanReport) -> String {
-    report_text(report)
+    report_text(report).0
 }
 
 /// The verdict (0 Disjoint, 1 Overlap, 2 Unknown) on two sentences, and the entries spent.

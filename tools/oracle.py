@@ -40,6 +40,7 @@ class Oracle:
         self.program = str(program)
         self.seconds = seconds
         self.process = None
+        self.departure = 0  # the request whose last line the report asked for last has, or 0
 
     def __enter__(self):
         return self
@@ -50,7 +51,9 @@ class Oracle:
     def clean(self, image):
         """The cleaned image and the report's text, both as bytes."""
         request = struct.pack("<B", REQUEST_CLEAN) + framed(image)
-        return self.ask(request, lambda: (self.read_framed(), self.read_framed()))
+        answer = self.ask(request, lambda: (self.read_framed(), self.read_framed(), self.read(1)))
+        self.departure = answer[2][0]
+        return answer[:2]
 
     def overlap(self, image, first, second):
         """The verdict (0, 1 or 2) and the entries spent by the outermost pair."""

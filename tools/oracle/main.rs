@@ -6,7 +6,8 @@
 //!
 //!     request CLEAN:   u8 1, bytes image
 //!     answer:          bytes cleaned image, bytes report text (its last line as
-//!                      document 02 asks for it: `departing_line`)
+//!                      document 02 asks for it: departures.rs), u8 request whose
+//!                      last line that is (0: the Rust's own)
 //!
 //!     request OVERLAP: u8 2, bytes image, u32 first, u32 second
 //!     answer:          u8 verdict (0 Disjoint, 1 Overlap, 2 Unknown),
@@ -16,8 +17,11 @@
 //! Every image must have been accepted by tools/reader.py and every number must
 //! be below the sentence count; anything else ends the process with a message.
 
+mod departures;
+
 use std::io::{self, BufReader, BufWriter, Read, Write};
 
+use departures::{Figures, departing_line};
 use refal_ast::{Span, VariableKind, Visibility};
 use refal_core::{
     CleanReport, CoreCondition, CoreDeclaration, CoreFunction, CoreProgram, CoreSentence, CoreTerm,
@@ -63,37 +67,31 @@ fn main() -> io::Result<()> {
 fn answer_clean(input: &mut impl Read, output: &mut impl Write) -> io::Result<()> {
     let image = read_bytes(input)?;
     let (cleaned, report) = clean_residual_program(&decode(&image));
+    let (text, request) = report_text(&report);
     write_bytes(output, &encode(&cleaned))?;
-    write_bytes(output, report_text(&report).as_bytes())
+    write_bytes(output, text.as_bytes())?;
+    output.write_all(&[request])
 }
 
-/// The text of a report: the Rust's, with the last line that document 02 asks for.
+/// The text of a report, and the request that changed its last line, or 0.
 /// Every report that the tools hold to the product's comes from here.
-fn report_text(report: &CleanReport) -> String {
+fn report_text(report: &CleanReport) -> (String, u8) {
     let text = format_clean_report(report);
     let last = text[..text.len() - 1].rfind('\n').map_or(0, |end| end + 1);
-    match departing_line(report) {
-        Some(line) => text[..last].to_owned() + &line,
-        None => text,
+    match departing_line(&figures_of(report)) {
+        Some((request, line)) => (text[..last].to_owned() + &line, request),
+        None => (text, 0),
     }
 }
 
-/// The last line where it departs from the Rust's.
-fn departing_line(report: &CleanReport) -> Option<String> {
-    // "It should end its report with `graph: empty`, declarations or not"
-    if report.functions == 0 {
-        return Some("graph: empty\n".to_owned());
+fn figures_of(report: &CleanReport) -> Figures {
+    Figures {
+        functions: report.functions,
+        undecided: report.undecided.len(),
+        uncovered: report.uncovered.len(),
+        uncharacterised: report.uncharacterised.len(),
+        dynamic_dispatch: report.dynamic_dispatch,
     }
-    // "If the list is not empty and there is no dynamic dispatch"
-    let listed = report.uncharacterised.len();
-    if listed == 0 || report.dynamic_dispatch {
-        return None;
-    }
-    Some(format!(
-        "graph: clean (undecided {}, uncovered {}, uncharacterised {listed})\n",
-        report.undecided.len(),
-        report.uncovered.len(),
-    ))
 }
 
 fn answer_overlap(input: &mut impl Read, output: &mut impl Write) -> io::Result<()> {

@@ -42,7 +42,11 @@ impl Source {
         let passed = (column - 1).saturating_sub(SHOWN / 2);
         let shown: String = line.chars().skip(passed).take(SHOWN).map(seen).collect();
         let blanks: String = shown.chars().map(blank).chain(std::iter::repeat(' ')).take(column - 1 - passed).collect();
-        format!("{}: line {number}, column {column}: {}\n    {shown}\n    {blanks}^", self.name, wrong.words)
+        let told = format!("{}: line {number}, column {column}: {}", self.name, wrong.words);
+        match shown.is_empty() {
+            true => told,
+            false => format!("{told}\n    {shown}\n    {blanks}^"),
+        }
     }
 }
 

@@ -27,7 +27,7 @@ failed=0
 step() {
     name=$1
     shift
-    if "$@" > "$here/said" 2>&1; then
+    if ("$@") > "$here/said" 2>&1; then
         passed=$((passed + 1))
         echo "ok      $name"
     else
@@ -193,13 +193,13 @@ step "pictures of the examples" pictures
 
 # The lines of a fenced block of REPORT.md.
 fenced() {
-    awk -v fence="\`\`\`$1" '$0 == "```" { inside = 0 } inside; $0 == fence { inside = 1 }' docs/REPORT.md
+    awk -v fence="\`\`\`$1" '$0 == "```" { inside = 0 } inside; $0 == fence { inside = 1 }' "$root/docs/REPORT.md"
 }
 report_as_told() {
-    fenced refal > "$here/told.ref" && fenced report > "$here/told.report"
-    [ -s "$here/told.report" ] && refal clean "$here/told.ref" | diff "$here/told.report" -
+    cd "$here" && fenced refal > report.ref && fenced report > told.report
+    [ -s told.report ] && refal clean report.ref | diff told.report - && refal graph --svg report.ref | cmp - "$root/docs/report.svg"
 }
-step "REPORT.md's example" report_as_told
+step "REPORT.md's example and its picture" report_as_told
 
 # README's steps but for the proofs, as they stand there, in a folder of their own.
 readme_steps() {

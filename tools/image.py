@@ -416,7 +416,7 @@ def image_of(text):
     """The image of a text, or an error if no image can hold it."""
     image = encode(program_of(text))
     if len(image) > LARGEST_IMAGE:
-        message = f"the image would have {len(image)} bytes, more than {LARGEST_IMAGE}"
+        message = f"the image would have {len(image)} bytes, more than {LARGEST_IMAGE}; divide the program"
         raise NotationError(len(text), message)
     return image
 

@@ -174,6 +174,9 @@ fn wrong_use_is_answered_in_words() {
         "{wrong}"
     );
     assert!(text(&done(refal(&["--help"]))).contains("refal clean [IN] [OUT]"));
+    let other = refal(&["diff", "--source", &example("worked", "ref"), &example("cascade", "image")]);
+    assert!(said(other, 2).contains("examples/worked.ref is not the text of this image"));
+    assert_eq!(done(refal(&["--version"])), concat!("refal ", env!("CARGO_PKG_VERSION"), "\n").as_bytes());
     assert!(text(&done(refal(&["diff", "--help"]))).contains("status: 0 done"));
 }
 

@@ -43,13 +43,31 @@ impl Input {
     /// The program of an image, if the library accepts it.
     pub fn of_image(name: &str, image: Vec<u8>, source: Option<Source>) -> Result<Input, Failure> {
         match showclean::check(&image) {
-            Ok(()) => Ok(Input { name: shown(name).to_owned(), program: image::decode(&image), image, source }),
+            Ok(()) => {
+                let program = image::decode(&image);
+                let source = source.map(|source| fitting(source, &program)).transpose()?;
+                Ok(Input { name: shown(name).to_owned(), program, image, source })
+            }
             Err(refusal) => Err(Failure::Refused(format!("{}: {}", shown(name), explain::refused(refusal, &image)))),
         }
     }
 }
 
-fn shown(name: &str) -> &str {
+/// A source that can be an image's: each function's name stands where its span says.
+fn fitting(source: Source, program: &Program) -> Result<Source, Failure> {
+    let missing = program.functions.iter().find(|function| !source.may_hold(&function.name, function.span));
+    match missing {
+        None => Ok(source),
+        Some(function) => {
+            let words =
+                format!("{} is not the text of this image: {} is not where its span says", source.name, function.name);
+            Err(Failure::Use(words))
+        }
+    }
+}
+
+/// A file's name in messages.
+pub fn shown(name: &str) -> &str {
     match name {
         files::STANDARD => "standard input",
         _ => name,
@@ -65,7 +83,10 @@ pub fn is_text(bytes: &[u8]) -> bool {
 fn image_within(program: &Program, end: usize) -> Result<Vec<u8>, Wrong> {
     let image = image::encode(program);
     match image.len() > LARGEST_IMAGE {
-        true => Err(Wrong::new(end, format!("the image would have {} bytes, more than {LARGEST_IMAGE}", image.len()))),
+        true => Err(Wrong::new(
+            end,
+            format!("the image would have {} bytes, more than {LARGEST_IMAGE}; divide the program", image.len()),
+        )),
         false => Ok(image),
     }
 }

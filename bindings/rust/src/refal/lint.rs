@@ -3,6 +3,7 @@
 use crate::calls::sites;
 use crate::cover::covers;
 use crate::program::{dispatches, Kind, Program, Sentence, Span, Term, What};
+use crate::progress::Progress;
 use crate::text::terms_text;
 
 #[derive(Debug, PartialEq)]
@@ -17,9 +18,11 @@ pub struct Warning {
 pub fn warnings(program: &Program) -> Vec<Warning> {
     let mut found = unknown_names(program);
     found.extend(defined_twice(program));
-    for function in &program.functions {
-        let mut sentences = Sentences { function: &function.name, found: &mut found };
-        sentences.check(&function.sentences, &[]);
+    let mut progress = Progress::new("sentences looked at", program.own_sentences().count());
+    for (f, s, _) in program.own_sentences() {
+        let function = &program.functions[f];
+        Sentences { function: &function.name, found: &mut found }.check(&function.sentences, s, &[]);
+        progress.step();
     }
     found.sort_by_key(|warning| warning.span.start);
     found
@@ -91,15 +94,14 @@ struct Sentences<'a> {
 }
 
 impl Sentences<'_> {
-    /// Sentences of a function or of a block, with the variables that are bound around them.
-    fn check(&mut self, sentences: &[Sentence], around: &[Variable]) {
-        for (number, sentence) in sentences.iter().enumerate() {
-            if let Some(earlier) = sentences[..number].iter().find(|earlier| is_covered(earlier, sentence, around)) {
-                let covering = terms_text(&earlier.pattern, "");
-                self.warn(sentence.span, format!("an earlier sentence takes all that comes here: `{covering}`"));
-            }
-            self.sentence(sentence, around.to_vec());
+    /// One sentence of a function or of a block, with the variables that are bound around it.
+    fn check(&mut self, sentences: &[Sentence], number: usize, around: &[Variable]) {
+        let sentence = &sentences[number];
+        if let Some(earlier) = sentences[..number].iter().find(|earlier| is_covered(earlier, sentence, around)) {
+            let covering = terms_text(&earlier.pattern, "");
+            self.warn(sentence.span, format!("an earlier sentence takes all that comes here: `{covering}`"));
         }
+        self.sentence(sentence, around.to_vec());
     }
 
     fn sentence(&mut self, sentence: &Sentence, mut bound: Vec<Variable>) {
@@ -122,7 +124,7 @@ impl Sentences<'_> {
                 What::Bracket(inside) | What::Call(_, inside) => self.terms(inside, bound),
                 What::Block(argument, sentences) => {
                     self.terms(argument, bound);
-                    self.check(sentences, bound);
+                    (0..sentences.len()).for_each(|number| self.check(sentences, number, bound));
                 }
                 _ => {}
             }

@@ -1,7 +1,7 @@
 //! The text that a program was made of, and its lines.
 
 use crate::program::Span;
-use crate::text::Wrong;
+use crate::text::{is_plain_name, Wrong};
 
 #[derive(Debug)]
 pub struct Source {
@@ -32,6 +32,13 @@ impl Source {
     pub fn line(&self, span: Span) -> Option<Line> {
         let told = span.start < span.end && span.end as usize <= self.text.len();
         told.then(|| self.line_of(span.start as usize))
+    }
+
+    /// Whether a name stands within a span; a span that says nothing, or a name that may be quoted, is no reason to doubt.
+    pub fn may_hold(&self, name: &str, span: Span) -> bool {
+        let part = self.text.get(span.start as usize..span.end as usize).unwrap_or_default();
+        let told = span.start < span.end && is_plain_name(name.as_bytes());
+        !told || part.windows(name.len()).any(|letters| letters == name.as_bytes())
     }
 
     /// What is wrong with the text: the place, the words, and the line with a mark under the place.
@@ -99,6 +106,13 @@ mod tests {
         let lines: Vec<&str> = told.lines().collect();
         assert_eq!(lines[0], "x: line 2, column 92: no");
         assert_eq!(lines[1].find('%'), lines[2].find('^'));
+    }
+
+    #[test]
+    fn a_text_of_another_program_is_noticed() {
+        let source = Source::new("x", "F { }\nG { }".into());
+        assert!(source.may_hold("G", Span { start: 6, end: 11 }) && source.may_hold("Q", Span::default()));
+        assert!(!source.may_hold("Q", Span { start: 6, end: 11 }) && !source.may_hold("G", Span { start: 6, end: 99 }));
     }
 
     #[test]

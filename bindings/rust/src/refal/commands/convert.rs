@@ -3,7 +3,7 @@
 use super::Outcome;
 use crate::failure::Failure;
 use crate::files;
-use crate::input::{is_text, Input};
+use crate::input::{is_text, shown, Input};
 use crate::text::text_of;
 use crate::words::Words;
 
@@ -11,7 +11,10 @@ pub fn encode(words: &Words) -> Result<Outcome, Failure> {
     let name = words.place(0).unwrap_or(files::STANDARD);
     let text = files::read(name)?;
     if showclean::check(&text).is_ok() {
-        return Err(Failure::Refused(format!("{name} is an image already; `refal decode` makes a text of it")));
+        return Err(Failure::Refused(format!(
+            "{} is an image already; `refal decode` makes a text of it",
+            shown(name)
+        )));
     }
     let input = Input::of_text(name, text)?;
     written(words.place(1), Outcome::image(input.image))
@@ -21,7 +24,10 @@ pub fn decode(words: &Words) -> Result<Outcome, Failure> {
     let name = words.place(0).unwrap_or(files::STANDARD);
     let image = files::read(name)?;
     if is_text(&image) {
-        return Err(Failure::Refused(format!("{name} is text and no image; `refal encode` makes an image of it")));
+        return Err(Failure::Refused(format!(
+            "{} is text and no image; `refal encode` makes an image of it",
+            shown(name)
+        )));
     }
     let input = Input::of_image(name, image, None)?;
     written(words.place(1), Outcome::text(text_of(&input.program)))

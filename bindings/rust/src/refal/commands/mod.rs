@@ -116,6 +116,8 @@ const COMMANDS: &[Command] = &[
     },
 ];
 
+const VERSION: &str = concat!("refal ", env!("CARGO_PKG_VERSION"));
+
 const NOTES: &str = "
 IN is a text or an image, whichever the file holds; `-`, or no word, is standard input. --source names the text that
 an image was made of, so that places are told by its lines. --strict makes what is found a status.
@@ -131,6 +133,9 @@ pub fn run(words: &[String]) -> Result<Outcome, Failure> {
     };
     if is_help(name) {
         return Ok(Outcome::text(help()));
+    }
+    if matches!(name.as_str(), "--version" | "-V") {
+        return Ok(Outcome::text(format!("{VERSION}\n")));
     }
     let Some(command) = COMMANDS.iter().find(|command| command.name == name) else {
         return Err(Failure::Use(format!("there is no command `{name}`; `refal help` lists them")));
@@ -163,7 +168,8 @@ fn is_help(word: &str) -> bool {
 fn help() -> String {
     let lines: String = COMMANDS.iter().map(Command::line).collect();
     format!(
-        "refal {}: programs as text and as images, checked, cleaned and shown\n\n{lines}{NOTES}",
-        env!("CARGO_PKG_VERSION")
+        "{VERSION}: programs as text and as images, checked, cleaned and shown
+
+{lines}{NOTES}"
     )
 }

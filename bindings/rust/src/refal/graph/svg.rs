@@ -220,10 +220,21 @@ fn gutter_of(drawing: &Drawing) -> f64 {
 }
 
 fn width_of(drawn: &Box, gutter: f64) -> f64 {
-    let letters = |text: &str| text.chars().count() as f64 * LETTER;
+    let letters = |text: &str| text.chars().map(letters_wide).sum::<f64>() * LETTER;
     let row = |row: &Row| gutter + letters(&label(row)) + if row.sort == Sort::Sentence { 0.0 } else { INDENT };
     let rows = drawn.rows.iter().map(row).fold(0.0, f64::max);
     rows.max(letters(&shortened(&drawn.name)) + letters(drawn.note) + LETTER).max(90.0) + 2.0 * PAD
+}
+
+/// Letters of the East and signs take the room of two.
+fn letters_wide(letter: char) -> f64 {
+    match letter as u32 {
+        0x1100..=0x115f | 0x2e80..=0xa4cf | 0xac00..=0xd7a3 | 0xf900..=0xfaff | 0xfe30..=0xfe6f | 0xff00..=0xff60 => {
+            2.0
+        }
+        0x1f300.. => 2.0,
+        _ => 1.0,
+    }
 }
 
 /// A row's words, with what a call's sort adds to them.

@@ -109,6 +109,27 @@ without_archive() {
 }
 step "without the archive the build says what to run" without_archive
 
+# A program without the standard library calls the cleaner through the wrapper.
+bare() {
+    cat > "$here/bare.rs" <<'end'
+#![no_std]
+#[panic_handler]
+fn stop(_: &core::panic::PanicInfo) -> ! {
+    loop {}
+}
+#[no_mangle]
+pub extern "C" fn refused() -> u8 {
+    showclean::check(&[]).map_or_else(|refusal| refusal.number, |()| 0)
+}
+end
+    echo 'unsigned char refused(void); int main(void) { return refused() != 1; } void rust_eh_personality(void) {}' > "$here/bare.c"
+    rustc --edition 2021 -O --crate-type rlib --crate-name showclean --out-dir "$here" bindings/rust/src/lib.rs &&
+        rustc --edition 2021 -O -C panic=abort --crate-type staticlib --extern showclean="$here/libshowclean.rlib" \
+            --out-dir "$here" "$here/bare.rs" &&
+        cc -o "$here/bare" "$here/bare.c" "$here/libbare.a" "$archive" && "$here/bare"
+}
+step "the wrapper without the standard library" bare
+
 same_words() {
     for number in 1 2 3 4 5 6 7 8 9 10 11 12 13; do
         words=$("$here/test" examples/removed.image | sed -n "s/^$number: //p")
@@ -188,6 +209,20 @@ pictures() {
     done
 }
 step "pictures of the examples" pictures
+
+# On a terminal, work that takes longer tells how far it is: here patterns that take long to hold to each other.
+tells_progress() {
+    python3 - > "$here/long.ref" <<'end'
+wide = [" ".join(f"e.{i}" for i in range(n % 5 + 6)) + f" 'B{n}' = ;" for n in range(60)]
+print("F {", *wide, *(f"'{'A' * 20}{n}' = ;" for n in range(40)), "}")
+end
+    script -qec "refal lint $here/long.ref" "$here/terminal" && grep -q 'sentences looked at: [0-9]* of 100' "$here/terminal"
+}
+if command -v script > "$here/said"; then
+    step "progress on a terminal" tells_progress
+else
+    left_out "progress on a terminal: there is no script(1)"
+fi
 
 # ------------------------------------------------------------------ documents
 

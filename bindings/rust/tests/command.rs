@@ -128,7 +128,7 @@ fn a_refusal_is_explained_with_its_place() {
     fs::write(&damaged, &image).expect("a file");
     let explained = done(refal(&["explain", "6", "10", damaged.to_str().expect("a plain path")]));
     assert!(text(&explained).contains("what to do:") && text(&explained).contains("^^ byte 10, 0 in decimal"));
-    assert!(said(refal(&["explain", "99"]), 2).contains("no refusal has the number 99"));
+    assert!(said(refal(&["explain", "99"]), 2).contains("no refusal has the number 99: they go from 1 to 13"));
 }
 
 #[test]

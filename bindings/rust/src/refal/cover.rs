@@ -178,6 +178,39 @@ mod tests {
         }
     }
 
+    /// All sequences of at most so many of the terms that a text lists.
+    fn sequences(text: &str, longest: usize) -> Vec<Vec<Term>> {
+        let program = program_of(format!("F {{ {text} = ; }}").as_bytes()).expect("a right text");
+        let terms = &program.functions[0].sentences[0].pattern;
+        let mut all = vec![vec![]];
+        let mut last = all.clone();
+        for _ in 0..longest {
+            let longer = |sequence: &Vec<Term>| -> Vec<Vec<Term>> {
+                terms.iter().map(|term| [&sequence[..], std::slice::from_ref(term)].concat()).collect()
+            };
+            last = last.iter().flat_map(longer).collect();
+            all.extend(last.iter().cloned());
+        }
+        all
+    }
+
+    #[test]
+    fn whatever_matches_the_covered_pattern_matches_the_covering_one() {
+        let patterns = sequences("'A' s.X s.Y t.X e.X e.Y (e.X) (s.X e.Y)", 2);
+        let expressions = sequences("'A' 'B' () ('A') ('B' 'A')", 3);
+        let mut covered = 0;
+        for general in &patterns {
+            for special in patterns.iter().filter(|special| covers(general, special)) {
+                covered += 1;
+                // An expression is a pattern without variables, so that covering it is matching it.
+                for expression in expressions.iter().filter(|expression| covers(special, expression)) {
+                    assert!(covers(general, expression), "{general:?} {special:?} {expression:?}");
+                }
+            }
+        }
+        assert!(covered > patterns.len(), "{covered}");
+    }
+
     #[test]
     fn a_long_search_ends_with_no() {
         let general: String = (0..24).map(|number| format!("e.{number} ")).collect::<String>() + "'B'";

@@ -11,7 +11,8 @@ pub fn run(words: &Words) -> Result<Outcome, Failure> {
         return Err(Failure::Use("a refusal's number is missing".to_owned()));
     };
     let Some(mut text) = explain::number(number(word)?) else {
-        return Err(Failure::Use(format!("no refusal has the number {word}: they go from 1 to 13")));
+        let last = (1..u8::MAX).take_while(|number| explain::number(*number).is_some()).count();
+        return Err(Failure::Use(format!("no refusal has the number {word}: they go from 1 to {last}")));
     };
     match (words.place(1), words.place(2)) {
         (Some(place), Some(image)) => text += &explain::shown(&files::read(image)?, number(place)?),

@@ -209,6 +209,7 @@ pictures() {
     done
 }
 step "pictures of the examples" pictures
+step "pictures of random programs" python3 tools/pictures.py "$here/bin/refal" --programs 100
 
 # On a terminal, work that takes longer tells how far it is: here patterns that take long to hold to each other.
 tells_progress() {

@@ -247,6 +247,8 @@ class Parser:
         self.expect(b"{")
         sentences = []
         while not self.sees(b"}"):
+            if self.look().kind == "end":
+                self.fail("a sentence or `}` must stand here")
             sentences.append(self.sentence(depth))
         self.take()
         return sentences

@@ -200,7 +200,8 @@ def check_spans(record, start, end, what):
 
 # Texts that no image can hold or that are not of the notation, with the answer's beginning.
 WRONG_TEXTS = (
-    ("F {", "line 1, column 4: a term, `,` or `=` must stand here"),
+    ("F {", "line 1, column 4: a sentence or `}` must stand here"),
+    ("F { e.X ", "line 1, column 9: a term, `,` or `=` must stand here"),
     ("F { = <G e.X; }", "line 1, column 13: a term or `>` must stand here"),
     ("F {\n  (<G>) = ; }", "line 2, column 4: a call or a block cannot stand in a pattern"),
     ("F { , : [: {}] = ; }", "line 1, column 9: a call or a block cannot"),

@@ -120,6 +120,9 @@ impl<'a> Parser<'a> {
         self.expect("{")?;
         let mut sentences = Vec::new();
         while !self.sees("}") {
+            if self.look().sort == Sort::End {
+                return self.fail("a sentence or `}` must stand here");
+            }
             sentences.push(self.sentence(depth)?);
         }
         self.take();
@@ -283,7 +286,8 @@ mod tests {
     #[test]
     fn wrong_texts_are_answered_at_their_place() {
         let cases = [
-            ("F {", 3, "a term, `,` or `=` must stand here"),
+            ("F {", 3, "a sentence or `}` must stand here"),
+            ("F { e.X ", 8, "a term, `,` or `=` must stand here"),
             ("F { (<G>) = ; }", 5, "a call or a block cannot stand in a pattern"),
             ("F { = e.; }", 7, "nothing of the notation begins here"),
             ("F { = 'A }", 6, "a quote that is not closed on its line"),

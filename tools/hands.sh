@@ -139,6 +139,12 @@ same_words() {
 }
 step "refusals in the same words in C, Rust and REPORT.md" same_words
 
+same_version() {
+    version=$(sed -n 's/^#define SHOWCLEAN_VERSION "\(.*\)"/\1/p' bindings/c/showclean.h)
+    ends 0 "refal $version" refal --version
+}
+step "one version in C and Rust" same_version
+
 # ----------------------------------------------------------------- full media
 
 large=$here/large.image

@@ -181,6 +181,20 @@ fn wrong_use_is_answered_in_words() {
 }
 
 #[test]
+fn no_text_is_written_over_by_its_image() {
+    let path = own("kept.ref");
+    let name = path.to_str().expect("a plain path");
+    for command in ["encode", "clean", "graph"] {
+        fs::write(&path, "F { }").expect("a file");
+        assert!(said(refal(&[command, name, name]), 2).contains("would be lost"), "{command}");
+        assert_eq!(fs::read(&path).expect("the text"), b"F { }");
+    }
+    done(refal(&["encode", name, own("kept.image").to_str().expect("a plain path")]));
+    let image = own("kept.image");
+    done(refal(&["clean", image.to_str().expect("a plain path"), image.to_str().expect("a plain path")]));
+}
+
+#[test]
 fn a_full_medium_is_told() {
     let words = said(refal(&["encode", &example("worked", "ref"), "/dev/full"]), 3);
     assert!(words.contains("cannot write /dev/full: No space left"), "{words}");

@@ -25,6 +25,17 @@ pub fn read(name: &str) -> Result<Vec<u8>, Failure> {
     }
 }
 
+/// An output that is the input too would cost it: an image is no text, and a text has no spans.
+pub fn apart(input: Option<&str>, output: Option<&str>) -> Result<(), Failure> {
+    let real = |name: Option<&str>| name.and_then(|name| fs::canonicalize(name).ok());
+    match (real(input), real(output)) {
+        (Some(input), Some(output)) if input == output => {
+            Err(Failure::Use(format!("{} would be lost: name another file for the output", input.display())))
+        }
+        _ => Ok(()),
+    }
+}
+
 /// Writes a file whole or not at all: what was there stays if the medium is full.
 pub fn write(name: &str, bytes: &[u8]) -> Result<(), Failure> {
     let path = fs::canonicalize(name).unwrap_or_else(|_| name.into());

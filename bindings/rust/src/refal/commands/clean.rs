@@ -10,6 +10,10 @@ use crate::words::Words;
 
 pub fn run(words: &Words) -> Result<Outcome, Failure> {
     let input = Input::read(words.place(0), None)?;
+    if input.source.is_some() {
+        // An image may be cleaned in its place, a text may not.
+        files::apart(words.place(0), words.place(1))?;
+    }
     let cleaned = cleaned(&input)?;
     match words.place(1) {
         None => Ok(Outcome::text(cleaned.report)),

@@ -17,7 +17,7 @@ pub fn encode(words: &Words) -> Result<Outcome, Failure> {
         )));
     }
     let input = Input::of_text(name, text)?;
-    written(words.place(1), Outcome::image(input.image))
+    written(words, Outcome::image(input.image))
 }
 
 pub fn decode(words: &Words) -> Result<Outcome, Failure> {
@@ -30,13 +30,16 @@ pub fn decode(words: &Words) -> Result<Outcome, Failure> {
         )));
     }
     let input = Input::of_image(name, image, None)?;
-    written(words.place(1), Outcome::text(text_of(&input.program)))
+    written(words, Outcome::text(text_of(&input.program)))
 }
 
-/// Leads an outcome's output to a file, if one is named.
-pub fn written(out: Option<&str>, outcome: Outcome) -> Result<Outcome, Failure> {
-    match out {
+/// Leads an outcome's output to the file that the second word names, if there is one.
+pub fn written(words: &Words, outcome: Outcome) -> Result<Outcome, Failure> {
+    match words.place(1) {
         None | Some(files::STANDARD) => Ok(outcome),
-        Some(name) => files::write(name, &outcome.output).map(|()| Outcome::default()),
+        Some(name) => {
+            files::apart(words.place(0), Some(name))?;
+            files::write(name, &outcome.output).map(|()| Outcome::default())
+        }
     }
 }

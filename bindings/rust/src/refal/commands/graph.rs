@@ -19,7 +19,7 @@ pub fn run(words: &Words) -> Result<Outcome, Failure> {
     let as_svg = words.has("--svg") || !words.has("--dot") && out.is_some_and(|name| name.ends_with(".svg"));
     let input = Input::read(words.place(0), words.value("--source"))?;
     let drawing = drawing_of(&input)?;
-    written(out, Outcome::text(if as_svg { svg(&drawing) } else { dot(&drawing) }))
+    written(words, Outcome::text(if as_svg { svg(&drawing) } else { dot(&drawing) }))
 }
 
 fn drawing_of(input: &Input) -> Result<Drawing, Failure> {

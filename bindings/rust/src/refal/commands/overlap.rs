@@ -32,13 +32,14 @@ fn compare(input: &Input, lines: &[String], first: usize, second: usize) -> Resu
     }
 }
 
+/// A line for each sentence, by its number.
 fn sentence_lines(input: &Input) -> Vec<String> {
-    let sentences = input.program.own_sentences().enumerate();
-    let line = |(number, (f, _, sentence)): (usize, (usize, usize, &crate::program::Sentence))| {
-        let name = &input.program.functions[f].name;
-        let place =
-            place_words(input.source.as_ref(), sentence.span).map_or_else(String::new, |place| format!("    {place}"));
-        format!("{number:>5}  {name} {{{}}}{place}\n", terms_text(&sentence.pattern, ""))
-    };
-    sentences.map(line).collect()
+    let mut lines = Vec::new();
+    for (f, _, sentence) in input.program.own_sentences() {
+        let (number, name) = (lines.len(), &input.program.functions[f].name);
+        let place = place_words(input.source.as_ref(), sentence.span).unwrap_or_default();
+        let line = format!("{number:>5}  {name} {{{}}}    {place}", terms_text(&sentence.pattern, ""));
+        lines.push(line.trim_end().to_owned() + "\n");
+    }
+    lines
 }

@@ -2,8 +2,8 @@
 
 use std::fmt::Write;
 
-use super::model::{Box, Drawing, Edge, Meets, Row, Sort};
-use super::svg::escaped;
+use super::model::{Drawing, Edge, Meets, Panel, Row, Sort};
+use super::pen::escaped;
 
 pub fn dot(drawing: &Drawing) -> String {
     let mut out = String::from("digraph program {\n  rankdir=LR;\n  node [shape=plain, fontname=\"monospace\"];\n");
@@ -18,7 +18,7 @@ pub fn dot(drawing: &Drawing) -> String {
 }
 
 /// A function as a table, a port for each row.
-fn table(drawn: &Box) -> String {
+fn table(drawn: &Panel) -> String {
     let note = if drawn.note.is_empty() { String::new() } else { format!(" ({})", drawn.note) };
     let rows: String = drawn.rows.iter().enumerate().map(|(number, row)| row_cell(number, row)).collect();
     let head = format!("<tr><td port=\"head\" bgcolor=\"#dde6f2\"><b>{}</b>{note}</td></tr>", escaped(&drawn.name));

@@ -4,6 +4,7 @@ mod dot;
 mod layout;
 mod model;
 mod paths;
+mod pen;
 mod svg;
 
 pub use dot::dot;

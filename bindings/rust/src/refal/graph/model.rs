@@ -13,12 +13,12 @@ use crate::text::{pattern_text, sentence_text, terms_text};
 pub struct Drawing {
     pub title: String,
     pub root: usize,
-    pub boxes: Vec<Box>,
+    pub boxes: Vec<Panel>,
     pub edges: Vec<Edge>,
 }
 
 #[derive(Debug)]
-pub struct Box {
+pub struct Panel {
     pub name: String,
     pub note: &'static str,
     pub rows: Vec<Row>,
@@ -77,7 +77,7 @@ impl Drawing {
         let mut drawing = Drawing { title, root: program.root(), boxes: Vec::new(), edges: Vec::new() };
         for (number, function) in program.functions.iter().enumerate() {
             let note = maker.note(number);
-            drawing.boxes.push(Box { name: function.name.clone(), note, rows: maker.rows(number) });
+            drawing.boxes.push(Panel { name: function.name.clone(), note, rows: maker.rows(number) });
         }
         maker.connect(&mut drawing)?;
         Ok(drawing)

@@ -3,34 +3,20 @@
 use std::fmt::Write;
 
 use super::layout::{Layout, Wire};
-use super::model::{Box, Drawing, Edge, Meets, Row, Sort};
+use super::model::{Drawing, Edge, Meets, Panel, Row, Sort};
 use super::paths::{Columns, Router};
+use super::pen::{edge_path, escaped, markers, shortened, text, wide, COLOURS, GONE, LETTER, NOTHING, OWN, STYLE};
 
-const LETTER: f64 = 7.25;
 const ROW: f64 = 19.0;
 const HEAD: f64 = 26.0;
 const PAD: f64 = 9.0;
 const INDENT: f64 = 16.0;
 const MARGIN: f64 = 28.0;
 const TITLE: f64 = 54.0;
+/// Between columns.
 const ROOM: f64 = 110.0;
-/// Letters of a row; the rest is in its tooltip.
-const LONGEST: usize = 46;
-const COLOURS: [&str; 8] = ["#1f5fa8", "#a8511f", "#2b7a3d", "#7a2b78", "#8a6d00", "#0f7c7c", "#a12b45", "#4a4aa8"];
 
-const STYLE: &str = "\
-text { font: 12px 'DejaVu Sans Mono', 'Liberation Mono', Menlo, Consolas, monospace; fill: #1d1d1f; }
-.title { font-size: 15px; font-weight: bold; }
-.name { font-weight: bold; fill: #fff; }
-.note { fill: #c9d6e6; font-size: 11px; }
-.line { fill: #9a9aa0; font-size: 10px; }
-.call { fill: #41506b; }
-.outside { fill: #8b8b92; }
-.uncovered { fill: #c0202c; font-weight: bold; }
-.gone { fill: #9b5a5f; text-decoration: line-through; }
-.edge { fill: none; stroke-width: 1.4; }
-";
-
+/// The whole picture.
 pub fn svg(drawing: &Drawing) -> String {
     let page = Page::of(drawing);
     let mut out = String::new();
@@ -50,29 +36,6 @@ pub fn svg(drawing: &Drawing) -> String {
     out += "</g>\n";
     page.legend(&mut out);
     out + "</svg>\n"
-}
-
-/// A tip for edges of each colour, and one for those that went.
-fn markers() -> String {
-    let marker = |(number, colour): (usize, &&str)| {
-        format!("<marker id=\"tip{number}\" viewBox=\"0 0 8 8\" refX=\"7\" refY=\"4\" markerWidth=\"7\" markerHeight=\"7\" orient=\"auto\"><path d=\"M0 1L8 4L0 7z\" fill=\"{colour}\"/></marker>")
-    };
-    let all: String = COLOURS.iter().chain(&[GONE, NOTHING]).enumerate().map(marker).collect();
-    format!("<defs>{all}</defs>")
-}
-
-const GONE: &str = "#c4bcbc";
-const NOTHING: &str = "#c0202c";
-
-/// The colour of an edge among those of the functions and the two behind them.
-fn colour_of(edge: &Edge) -> usize {
-    if edge.removed {
-        COLOURS.len()
-    } else if edge.meets == Meets::Nothing {
-        COLOURS.len() + 1
-    } else {
-        edge.from.0 % COLOURS.len()
-    }
 }
 
 /// A drawing with its places.
@@ -107,12 +70,13 @@ impl Page<'_> {
         // What went is drawn below what stays.
         for removed in [true, false] {
             for (number, edge) in self.drawing.edges.iter().enumerate().filter(|(_, edge)| edge.removed == removed) {
-                edge_path(out, &router.path(&wire_of(edge), number), colour_of(edge), edge.meets);
+                let path = router.path(&wire_of(edge), number);
+                edge_path(out, &path, colour_of(edge), dashes_of(edge.meets));
             }
         }
     }
 
-    fn function(&self, out: &mut String, number: usize, drawn: &Box) {
+    fn function(&self, out: &mut String, number: usize, drawn: &Panel) {
         let item = &self.layout.items[number];
         let (left, right) = self.sides[number];
         let (width, top) = (right - left, item.top);
@@ -128,10 +92,10 @@ impl Page<'_> {
             HEAD - 9.0,
             width - 10.0,
             HEAD - 9.0,
-            COLOURS[number % COLOURS.len()]
+            COLOURS[number % OWN]
         );
         text(out, "name", left + PAD, top + 15.5, &shortened(&drawn.name));
-        let note = left + PAD + (shortened(&drawn.name).chars().count() as f64 + 1.0) * LETTER;
+        let note = left + PAD + wide(&shortened(&drawn.name)) + LETTER;
         text(out, "note", note, top + 15.5, drawn.note);
         for (place, row) in drawn.rows.iter().enumerate() {
             self.row(out, left, right, top + HEAD + ROW * place as f64, row);
@@ -174,9 +138,9 @@ impl Page<'_> {
         ];
         let mut x = MARGIN;
         for (meets, words) in entries {
-            edge_path(out, &format!("M{x:.1} {y:.1}h34"), 0, meets);
+            edge_path(out, &format!("M{x:.1} {y:.1}h34"), 0, dashes_of(meets));
             text(out, "call", x + 42.0, y + 4.0, words);
-            x += 42.0 + LETTER * words.chars().count() as f64 + 26.0;
+            x += 42.0 + wide(words) + 26.0;
         }
         let y = y + ROW;
         let words = [
@@ -187,22 +151,28 @@ impl Page<'_> {
         let mut x = MARGIN;
         for (class, words) in words {
             text(out, class, x, y + 4.0, words);
-            x += LETTER * words.chars().count() as f64 + 26.0;
+            x += wide(words) + 26.0;
         }
     }
 }
 
-fn edge_path(out: &mut String, path: &str, colour: usize, meets: Meets) {
-    let dashes = match meets {
-        Meets::Overlap | Meets::Nothing => "",
-        Meets::Unknown => " stroke-dasharray=\"7 4\"",
-        Meets::Computed => " stroke-dasharray=\"2 3\"",
-    };
-    let stroke = COLOURS.iter().chain(&[GONE, NOTHING]).nth(colour).unwrap_or(&GONE);
-    let _ = writeln!(
-        out,
-        "<path class=\"edge\" d=\"{path}\" stroke=\"{stroke}\"{dashes} marker-end=\"url(#tip{colour})\"/>"
-    );
+/// The colour of an edge, by its number among the pen's.
+fn colour_of(edge: &Edge) -> usize {
+    if edge.removed {
+        GONE
+    } else if edge.meets == Meets::Nothing {
+        NOTHING
+    } else {
+        edge.from.0 % GONE
+    }
+}
+
+fn dashes_of(meets: Meets) -> &'static str {
+    match meets {
+        Meets::Overlap | Meets::Nothing => "none",
+        Meets::Unknown => "7 4",
+        Meets::Computed => "2 3",
+    }
 }
 
 fn wire_of(edge: &Edge) -> Wire {
@@ -219,22 +189,10 @@ fn gutter_of(drawing: &Drawing) -> f64 {
     }
 }
 
-fn width_of(drawn: &Box, gutter: f64) -> f64 {
-    let letters = |text: &str| text.chars().map(letters_wide).sum::<f64>() * LETTER;
-    let row = |row: &Row| gutter + letters(&label(row)) + if row.sort == Sort::Sentence { 0.0 } else { INDENT };
+fn width_of(drawn: &Panel, gutter: f64) -> f64 {
+    let row = |row: &Row| gutter + wide(&label(row)) + if row.sort == Sort::Sentence { 0.0 } else { INDENT };
     let rows = drawn.rows.iter().map(row).fold(0.0, f64::max);
-    rows.max(letters(&shortened(&drawn.name)) + letters(drawn.note) + LETTER).max(90.0) + 2.0 * PAD
-}
-
-/// Letters of the East and signs take the room of two.
-fn letters_wide(letter: char) -> f64 {
-    match letter as u32 {
-        0x1100..=0x115f | 0x2e80..=0xa4cf | 0xac00..=0xd7a3 | 0xf900..=0xfaff | 0xfe30..=0xfe6f | 0xff00..=0xff60 => {
-            2.0
-        }
-        0x1f300.. => 2.0,
-        _ => 1.0,
-    }
+    rows.max(wide(&shortened(&drawn.name)) + wide(drawn.note) + LETTER).max(90.0) + 2.0 * PAD
 }
 
 /// A row's words, with what a call's sort adds to them.
@@ -263,50 +221,4 @@ fn columns_of(layout: &Layout, widths: &[f64]) -> Columns {
 fn side_of(number: usize, layout: &Layout, columns: &Columns, widths: &[f64]) -> (f64, f64) {
     let left = columns.left[layout.items[number].column];
     (left, left + widths[number])
-}
-
-fn shortened(text: &str) -> String {
-    match text.chars().count() > LONGEST {
-        true => text.chars().take(LONGEST - 1).chain(['…']).collect(),
-        false => text.to_owned(),
-    }
-}
-
-fn text(out: &mut String, class: &str, x: f64, y: f64, words: &str) {
-    if !words.is_empty() {
-        let _ = writeln!(
-            out,
-            "<text class=\"{class}\" x=\"{x:.1}\" y=\"{y:.1}\" xml:space=\"preserve\">{}</text>",
-            escaped(words)
-        );
-    }
-}
-
-/// Text between XML tags; control characters, which XML cannot have, as a sign.
-pub fn escaped(text: &str) -> String {
-    let letter = |letter: char| match letter {
-        '&' => "&amp;".to_owned(),
-        '<' => "&lt;".to_owned(),
-        '>' => "&gt;".to_owned(),
-        '"' => "&quot;".to_owned(),
-        _ if letter.is_control() => "\u{fffd}".to_owned(),
-        _ => letter.to_string(),
-    };
-    text.chars().map(letter).collect()
-}
-
-#[cfg(test)]
-mod tests {
-    use super::*;
-
-    #[test]
-    fn letters_of_xml_are_escaped() {
-        assert_eq!(escaped("<F \"&'\n"), "&lt;F &quot;&amp;'\u{fffd}");
-    }
-
-    #[test]
-    fn long_rows_are_shortened_by_letters() {
-        assert_eq!(shortened(&"\u{44f}".repeat(LONGEST)).chars().count(), LONGEST);
-        assert!(shortened(&"\u{44f}".repeat(LONGEST + 1)).ends_with('…'));
-    }
 }

@@ -38,7 +38,7 @@ fn trouble(archive: &Path) -> Option<String> {
     }
     if !archive.is_file() {
         return Some(format!(
-            "there is no {}: run `rt staticlib cleaner` in the repository's root first (it proves every crate, some 10 minutes), or set {ELSEWHERE} to a folder with {ARCHIVE}",
+            "there is no {}: run `rt staticlib cleaner` in the repository's root first (it proves every crate, 7 minutes of processor time), or set {ELSEWHERE} to a folder with {ARCHIVE}",
             archive.display()
         ));
     }

@@ -62,6 +62,15 @@ fn parts(answer: u64) -> Result<(usize, u64), Refusal> {
 }
 
 /// Removes the sentences that no call can reach; the cleaned image and the report are at the beginnings of what is lent.
+///
+/// ```
+/// let image = [0; 12];
+/// let (mut output, mut work, mut report) = ([0; 12], [0; showclean::work_needed(12)], [0; 200]);
+/// let cleaned = showclean::clean(&image, &mut output, &mut work, &mut report)?;
+/// assert_eq!(output[..cleaned.output], image);
+/// assert!(report[..cleaned.report].ends_with(b"graph: empty\n"));
+/// # Ok::<(), showclean::Refusal>(())
+/// ```
 pub fn clean(image: &[u8], output: &mut [u8], work: &mut [u32], report: &mut [u8]) -> Result<Cleaned, Refusal> {
     // SAFETY: each pointer and length are those of one slice, and no two slices share memory.
     let answer = unsafe {

@@ -3,8 +3,8 @@
 
    What the caller owes, since no proof reaches into C:
    - Each pointer is valid for its length. It may be NULL if its length is 0.
-   - Lent slices share no memory: image, output, work and report lie apart. Overlap is not detected; the call then
-     ends all the same, and may answer 0 with wrong bytes.
+   - Lent slices share no memory: image, output, work and report lie apart. That they do is not tested, and nothing
+     is promised if they do not: an answer 0 with wrong bytes was seen.
    - work is aligned for uint32_t.
 
    Threads: nothing is kept between calls, so that any number of threads may call at once, each with its own output,
@@ -12,7 +12,7 @@
 
    Memory and code: docs/BINDINGS.md. The archive needs one symbol from outside, memset, and holds x86-64 code.
 
-   C90 and later, C++98 and later; the archive aside, all of it stands in this file, and functions that are not used
+   C90 and later, C++11 and later; the archive aside, all of it stands in this file, and functions that are not used
    leave nothing in the program. */
 #ifndef SHOWCLEAN_H
 #define SHOWCLEAN_H

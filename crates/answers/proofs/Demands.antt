@@ -22,7 +22,7 @@ use Rattle.patterns.specs.Fresh.{Fresh}
 use Rattle.patterns.specs.Search.{patternsOverlap, start, spent}
 use Rattle.patterns.specs.Dry.{Dry}
 use Rattle.patterns.proofs.Plain.{Plain, valid-plain}
-use Rattle.patterns.proofs.Meet.{meet}
+use Rattle.patterns.specs.Meet.{meet}
 use Rattle.patterns.proofs.Disjoint.{disjoint-sound}
 use Rattle.patterns.proofs.Overlap.{overlap-sound}
 use Rattle.patterns.proofs.Unknown.{unknown-dry}

@@ -1,3 +1,4 @@
 pub mod Answers
 pub mod CleanAnswers
 pub mod Packed
+pub mod ExpressionAnswers

@@ -8,6 +8,13 @@ pub struct Comparison {
     pub spent: u32,
 }
 
+// The same, and the length of the expression that was written.
+pub struct Sharing {
+    pub verdict: Verdict,
+    pub spent: u32,
+    pub length: usize,
+}
+
 // How long the cleaned image and the report are.
 pub struct Lengths {
     pub output: usize,
@@ -21,5 +28,10 @@ pub enum CleanAnswer {
 
 pub enum OverlapAnswer {
     Compared(Comparison),
+    Refused(Refusal),
+}
+
+pub enum ExpressionAnswer {
+    Compared(Sharing),
     Refused(Refusal),
 }

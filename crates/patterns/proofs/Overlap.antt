@@ -16,7 +16,8 @@ use Rattle.patterns.specs.Expression.{Expression, void, atom, _⧺_}
 use Rattle.patterns.specs.Fresh.{Fresh}
 use Rattle.patterns.proofs.Plain.{Plain, PlainOne, PlainView, view-plain}
 use Rattle.patterns.specs.Search.{One, View, view, leftoverOverlap, ends, afterSplit, splitsFrom, absorbingSplit, literalOverlap, start, overlapOfTerms, afterUnknown, afterHeads, entered, enter, size, sequence, patternsOverlap}
-use Rattle.patterns.proofs.Meet.{letter, free, freeOne, before, ifOverlap, meetSplits, ofFirst, meetOfTerms, meetEntered, meetEnter, meetSequence, meet, unfold-meet}
+use Rattle.patterns.specs.Meet.{letter, free, freeOne, before, ifOverlap, meetSplits, ofFirst, meetOfTerms, meetEntered, meetEnter, meetSequence, meet}
+use Rattle.patterns.proofs.Meet.{unfold-meet}
 use Rattle.patterns.proofs.Size.{oneSize, Below, view-below, by-size}
 use Rattle.patterns.proofs.Unfold.{unfold-sequence}
 use Rattle.patterns.proofs.Expression.{⧺-assoc}

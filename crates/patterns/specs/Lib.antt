@@ -4,6 +4,8 @@ pub mod Symbols
 pub mod Equality
 pub mod Configuration
 pub mod Search
+pub mod Meet
+pub mod Marks
 pub mod Dry
 pub mod Expression
 pub mod Fresh

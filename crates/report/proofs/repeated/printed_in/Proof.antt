@@ -14,7 +14,6 @@ use Rattle.report.proofs.Places.{sentence-of}
 use Rattle.report.proofs.Repeating.{none-first, none-next, sentences-within}
 use Rattle.report.specs.Emitting.{Readable}
 use Rattle.report.specs.Removed.{NonePrinting}
-use Rattle.patterns.proofs.Meet.{before}
 use denote.Exit.{no, yes}
 use Rattle.report.proofs.repeated.printed_in.Statement.{statement}
 use Rattle.report.proofs.repeated.printed_in.Tie as tie

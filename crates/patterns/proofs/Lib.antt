@@ -15,6 +15,8 @@ pub mod Unfold
 pub mod Verdicts
 pub mod Fuel
 pub mod Meet
+pub mod Marks
+pub mod MeetBytes
 pub mod Plain
 pub mod Overlap
 pub mod Table

@@ -17,7 +17,7 @@ splits-after f g hf hg k =
 pub splits-cons : (b : ℕ) (f : List ℕ → List ℕ) → Splits f → Splits (λ k. b ∷ f k)
 splits-cons b f hf k = ap (λ (l : List ℕ). b ∷ l) (hf k)
 
-span-splits : (p : Span) → Splits (putSpan p)
+pub span-splits : (p : Span) → Splits (putSpan p)
 unfolding putSpan put32
 span-splits p k = refl
 
@@ -29,7 +29,7 @@ name-splits : (n : Name) → Splits (putName n)
 unfolding putName
 name-splits n k = ap (λ (l : List ℕ). length n ∷ (l ++ k)) (sym (append-nil n))
 
-symbol-splits : (p : Span) (x : Symbol) → Splits (putSymbol p x)
+pub symbol-splits : (p : Span) (x : Symbol) → Splits (putSymbol p x)
 unfolding putSymbol
 symbol-splits p (character c) k = splits-cons 1 (λ l. putSpan p (put32 c l)) (splits-after (putSpan p) (put32 c) (span-splits p) (code-splits c)) k
 symbol-splits p (identifier n) k = splits-cons 2 (λ l. putSpan p (putName n l)) (splits-after (putSpan p) (putName n) (span-splits p) (name-splits n)) k
@@ -40,7 +40,7 @@ unfolding putHead
 head-splits h k = splits-cons 10 (putSpan (h .span)) (span-splits (h .span)) k
 
 -- a span and what follows it
-spanned-splits : (b : ℕ) (p : Span) (f : List ℕ → List ℕ) → Splits f → Splits (λ k. b ∷ putSpan p (f k))
+pub spanned-splits : (b : ℕ) (p : Span) (f : List ℕ → List ℕ) → Splits f → Splits (λ k. b ∷ putSpan p (f k))
 spanned-splits b p f hf k = splits-cons b (λ l. putSpan p (f l)) (splits-after (putSpan p) f (span-splits p) hf) k
 
 mutual

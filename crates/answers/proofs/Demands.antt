@@ -33,7 +33,9 @@ use Rattle.meaning.specs.Run as the-run
 use Rattle.meaning.proofs.Fewer.{cleaned-valid}
 use Rattle.meaning.proofs.Compared.{Compares, compares-plain}
 use Rattle.meaning.specs.Counted.{droppedInAll, functionsWithAny}
-use Rattle.meaning.proofs.SameRun.{same-run}
+use Rattle.meaning.specs.Watch.{Watch, ended, watchedRun}
+use Rattle.meaning.proofs.SameRun.{same-run, same-watched}
+use Rattle.meaning.proofs.Unwatched.{unwatched, unwatched-run as without-watch}
 use Rattle.meaning.proofs.Bound.{all-rounds-few, all-dropped-add-up}
 use Rattle.meaning.proofs.Twice.{clean-twice, twice-removed, twice-rounds}
 use Rattle.answers.specs.declared.CleanAnswer.{CleanAnswer}
@@ -165,6 +167,15 @@ module _ (image : List ℕ) (bytes : Bytes image) (l : Lent) (w : Program) (acce
   -- Whatever program they are accepted as, its run is the raw program's: events, ending and value.
   pub same-runs : (q : Program) → decode (wrote image l) ≡ Answer.accepted q → (input : Expression) (answers : List Expression) (limit : ℕ) → the-run.run q input answers limit ≡ the-run.run w input answers limit
   same-runs q e input answers limit = ap (λ (p : Program). the-run.run p input answers limit) (accepted-once (sym e ∙ wrote-accepted)) ∙ same-run w input answers limit
+
+  -- Document 02, request 1: "so a cleaned and an uncleaned show leave the same list". Watched in the same way, both tell the same events and stop alike: with one of the six endings, with 15 or with 16.
+  pub same-lists : (q : Program) → decode (wrote image l) ≡ Answer.accepted q → (watch : Watch) (input : Expression) (answers : List Expression) (limit : ℕ) → watchedRun watch q input answers limit ≡ watchedRun watch w input answers limit
+  same-lists q e watch input answers limit = ap (λ (p : Program). watchedRun watch p input answers limit) (accepted-once (sym e ∙ wrote-accepted)) ∙ same-watched watch w input answers limit
+
+-- A watched run that nothing stops is the run.
+pub unwatched-run : (w : Program) (input : Expression) (answers : List Expression) (limit : ℕ)
+    → watchedRun unwatched w input answers limit ≡ record { events = the-run.run w input answers limit .events; stop = ended (the-run.run w input answers limit .ending) }
+unwatched-run = without-watch
 
 -- ---- Document 02: "Show that cleaning a cleaned show gives the same bytes back, with no sentence removed and rounds at most 1."
 

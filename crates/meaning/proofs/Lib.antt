@@ -25,6 +25,9 @@ pub mod Rounds
 pub mod RunComputing
 pub mod RunExamples
 pub mod SameRun
+pub mod Unwatched
+pub mod WatchComputing
+pub mod WatchExamples
 pub mod SiteExamples
 pub mod Twice
 pub mod Verdicts

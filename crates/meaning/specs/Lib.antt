@@ -11,4 +11,6 @@ pub mod Match
 pub mod Report
 pub mod Spanless
 pub mod Run
+pub mod Records
+pub mod Watch
 pub mod Counted

@@ -115,7 +115,7 @@ unfoldable pub enterTo : ℕ → Program → Callee
 enterTo zero p f v s = ends callLimit s
 enterTo (suc d) p f v s = entry (entered f v) (λ s₁. body (enterTo d p) (sentencesOf f (p .functions)) v s₁) s
 
--- A call. As many as may still be entered is as deep as calls can nest, so that the bound is never met (proofs/Depth.antt).
+-- A call. As many as may still be entered is as deep as calls can nest, so that the bound is never met (proofs/Unwatched.antt).
 unfoldable pub enter : Program → Callee
 enter p f v s = enterTo (s .calls) p f v s
 

@@ -224,7 +224,7 @@ module _ (watch : Watch) (I : Load → Type 0) (kept : Holds I) where
           let hr : Every (Agree I c d) (collectCallSites r) = every-left (Agree I c d) (collectCallSites r) (conditionSites e ++ sentenceSites l) h₁ in
           let h₂ : Every (Agree I c d) (conditionSites e ++ sentenceSites l) = every-right (Agree I c d) (collectCallSites r) (conditionSites e ++ sentenceSites l) h₁ in
           let tries : (m : Bindings) (s₁ : Load) → WellKinded m → I s₁ → Gives I (Opt WellKinded) (hold watch c e m (weighing (s .weight + boundAnew m b) s₁)) =
-              λ m s₁ w₁ i₁. hold-gives c keeps e m (weighing (s .weight + boundAnew m b) s₁) w₁ (kept .weighed (s .weight + boundAnew m b) s₁ i₁) in
+          λ m s₁ w₁ i₁. hold-gives c keeps e m (weighing (s .weight + boundAnew m b) s₁) w₁ (kept .weighed (s .weight + boundAnew m b) s₁ i₁) in
           then-cong (Opt WellKinded)
           (first-same (matches p v b) _ _ s (matches-kinded p v b w) i tries (λ m s₁ w₁ i₁. hold-same e m (weighing (s .weight + boundAnew m b) s₁) w₁ (kept .weighed (s .weight + boundAnew m b) s₁ i₁) (every-left (Agree I c d) (conditionSites e) (sentenceSites l) h₂)))
           (first-gives (matches p v b) _ s (matches-kinded p v b w) i tries)

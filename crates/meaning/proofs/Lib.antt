@@ -26,6 +26,7 @@ pub mod RunComputing
 pub mod RunExamples
 pub mod SameRun
 pub mod Unwatched
+pub mod Inputs
 pub mod WatchComputing
 pub mod WatchExamples
 pub mod SiteExamples

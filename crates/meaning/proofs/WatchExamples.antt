@@ -100,8 +100,8 @@ grouped = (refl, refl, refl)
 -- 42 (entry), 103, 119 (entry), 132, 145, 177, 177, then the next match: 103, 119 (entry), 132, 145, 158, 190, 190, 190, 203, 216, 242.
 tries : Program
 tries = program (
-  define local "F" (rule (e-var "1" (s-var "A" (e-var "2" nil))) (when (apply "G" (s-var "A" nil) nil) (e-var "3" (s-var "B" (e-var "4" nil))) (when (s-var "B" nil) (char 89 nil) none)) (e-var "1" (s-var "A" (e-var "3" nil))) empty)
-  ∷ define local "G" (rule (char 80 nil) none (char 88 (char 90 nil)) (rule (char 81 nil) none (char 88 (char 90 (char 89 nil))) empty)) ∷ [])
+    define local "F" (rule (e-var "1" (s-var "A" (e-var "2" nil))) (when (apply "G" (s-var "A" nil) nil) (e-var "3" (s-var "B" (e-var "4" nil))) (when (s-var "B" nil) (char 89 nil) none)) (e-var "1" (s-var "A" (e-var "3" nil))) empty)
+    ∷ define local "G" (rule (char 80 nil) none (char 88 (char 90 nil)) (rule (char 81 nil) none (char 88 (char 90 (char 89 nil))) empty)) ∷ [])
 
 tried : (stopped (upTo 176) tries (letter 80 (letter 81 void)) [] 9 ≡ after 3 tooHeavy)
     × (stopped (upTo 189) tries (letter 80 (letter 81 void)) [] 9 ≡ after 5 tooHeavy)
@@ -109,6 +109,14 @@ tried : (stopped (upTo 176) tries (letter 80 (letter 81 void)) [] 9 ≡ after 3 
     × (stopped (upTo 242) tries (letter 80 (letter 81 void)) [] 9 ≡ after 6 (ended (value (letter 80 (letter 81 (letter 88 (letter 90 void)))))))
 unfolding computing tries
 tried = (refl, refl, refl, refl)
+
+-- `F { , 'aaaa' : 'b' = ; = 'bbbb'; }`: 16 (entry), 29, 42, 55, 68; the condition fails, and its value is left: 29, 42, 55, 68.
+leaves : Program
+leaves = program (define local "F" (rule nil (when (char 97 (char 97 (char 97 (char 97 nil)))) (char 98 nil) none) nil (rule nil none (char 98 (char 98 (char 98 (char 98 nil)))) empty)) ∷ [])
+
+left : (stopped (upTo 67) leaves void [] 9 ≡ after 1 tooHeavy) × (stopped (upTo 68) leaves void [] 9 ≡ after 2 (ended (value (letter 98 (letter 98 (letter 98 (letter 98 void)))))))
+unfolding computing leaves
+left = (refl, refl)
 
 -- "Call limit n ends the run before entry n + 1", and so before 15; 15 is met before 16; without functions nothing is counted.
 first-ends : (stopped (upTo 28) copies (letter 65 void) [] 0 ≡ after 0 (ended callLimit))

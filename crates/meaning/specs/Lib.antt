@@ -13,4 +13,5 @@ pub mod Spanless
 pub mod Run
 pub mod Records
 pub mod Watch
+pub mod Inputs
 pub mod Counted

@@ -1,0 +1,6 @@
+pub mod Costs
+pub mod Readings
+pub mod Heads
+pub mod Cells
+pub mod Words
+pub mod Places

@@ -4,3 +4,5 @@ pub mod Heads
 pub mod Cells
 pub mod Words
 pub mod Places
+pub mod Flat
+pub mod Lists

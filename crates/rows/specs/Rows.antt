@@ -1,7 +1,9 @@
 -- A row of cells in the room, and what it stands on: the terms of two patterns by their places.
 use Prim.Native.Nat.{ℕ, zero, suc, _+_, _*_, _%_, _<_, _≤_}
 use mathlib.Core.Path.{_≡_}
+use mathlib.Core.Bool.{cond}
 use mathlib.Core.List.{List}
+use lib.Dec.{eqb}
 use lib.ListN.{length, drop, getD}
 use Rattle.program.specs.Syntax.{Terms, nil}
 use Rattle.program.specs.Limits.{Mode}
@@ -36,6 +38,18 @@ pub record Stands (b : List ℕ) (p : ℕ) (t : Terms) : Type 0 where
   pub from : PatternFrom b p
   pub is : readAt b p ≡ t
   pub further : getD b p 0 ≡ 15 → ⊥
+
+-- Both orders of an empty sequence and one that begins with the mark m, from those of its tail.
+unfoldable pub closing : ℕ → ℕ → ℕ
+closing m w = cond (eqb m 6) w 327685
+
+-- Two heads at places, neither an `e.` variable, and not both brackets.
+pub record Flat (b : List ℕ) (p q : ℕ) : Type 0 where
+  pub first : PatternFrom b p
+  pub second : PatternFrom b q
+  pub first-one : (getD b p 0 ≡ 15 → ⊥) × (getD b p 0 ≡ 6 → ⊥)
+  pub second-one : (getD b q 0 ≡ 15 → ⊥) × (getD b q 0 ≡ 6 → ⊥)
+  pub apart : getD b p 0 ≡ 7 → getD b q 0 ≡ 7 → ⊥
 
 -- The n terms of t, by their places, at the entries from `at` on.
 pub record Listed (b m : List ℕ) (at n : ℕ) (t : Terms) : Type 0 where

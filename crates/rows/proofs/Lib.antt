@@ -6,3 +6,4 @@ pub mod Words
 pub mod Places
 pub mod Flat
 pub mod Lists
+pub mod Filling

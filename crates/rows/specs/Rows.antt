@@ -73,3 +73,43 @@ Row m row lo hi x y = (j : ℕ) → lo ≤ j → j < hi → Cells x (behindTerms
 pub record HeadsTold (x y : Terms) (w : ℕ) : Type 0 where
   pub first : (p q : One) → view x ≡ View.one p (tail x) → view y ≡ View.one q (tail y) → low w % 4 ≡ codeOf (overlapOfTerms sequence p q)
   pub second : (p q : One) → view x ≡ View.one p (tail x) → view y ≡ View.one q (tail y) → high w % 4 ≡ codeOf (overlapOfTerms sequence q p)
+
+-- The pattern whose terms are listed from an entry on.
+abbrev pub listedAt : List ℕ → List ℕ → ℕ → Terms
+listedAt b m at = readAt b (getD m at 0)
+
+-- The terms of a pattern are listed, and the row for them lies behind.
+pub record Lies (b m : List ℕ) (ys n row : ℕ) (y : Terms) : Type 0 where
+  pub listed : Listed b m ys n y
+  pub before : ys + n ≤ row
+  pub fits : row + 2 * n ≤ length m
+
+-- What the pair at p and q is made of: both begin with a term, and the cells beside it are known.
+pub record Beside (b : List ℕ) (p q diagonal below right : ℕ) : Type 0 where
+  pub few : length b ≤ 32768
+  pub first : PatternFrom b p
+  pub second : PatternFrom b q
+  pub first-some : getD b p 0 ≡ 15 → ⊥
+  pub second-some : getD b q 0 ≡ 15 → ⊥
+  pub diagonal-told : PairTold (tail (readAt b p)) (tail (readAt b q)) diagonal
+  pub below-told : SplitsTold (tail (readAt b p)) (readAt b q) below
+  pub right-told : SplitsTold (readAt b p) (tail (readAt b q)) right
+
+-- What a row is made of, for a tail at p that begins with a term: the row of the tail behind it, and the cells at the close.
+pub record Above (b m : List ℕ) (p ys n row beneath side : ℕ) (y : Terms) : Type 0 where
+  pub few : length b ≤ 32768
+  pub lies : Lies b m ys n row y
+  pub from : PatternFrom b p
+  pub some : getD b p 0 ≡ 15 → ⊥
+  pub below : Row m row 0 n (tail (readAt b p)) y
+  pub beneath-told : PairTold (tail (readAt b p)) (behindTerms n y) beneath
+  pub side-told : SplitsTold (readAt b p) (behindTerms n y) side
+
+-- What a table is made of: two lists of terms, and where its row begins.
+pub record Lists (b m : List ℕ) (xs a ys n row : ℕ) : Type 0 where
+  pub few : length b ≤ 32768
+  pub first : Listed b m xs a (listedAt b m xs)
+  pub second : Listed b m ys n (listedAt b m ys)
+  pub some : (0 < a) × (0 < n)
+  pub before : (xs + a ≤ row) × (ys + n ≤ row)
+  pub within : row ≤ length m

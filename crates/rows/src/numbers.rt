@@ -62,7 +62,7 @@ fn ends(s: u32, t: u32) -> u32
     stop(s - v + t)
 }
 
-fn low_of(w: u32) -> u32
+pub fn low_of(w: u32) -> u32
     ensures { λ r. ⌜ (r ≡ low w) × (r < 65536) ⌝ }
 {
     w % 65536

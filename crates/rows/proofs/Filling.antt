@@ -11,13 +11,14 @@ use borrow.Author.Tests.{eqb-true, eqb-false}
 use Rattle.program.specs.Syntax.{Terms}
 use Rattle.image.specs.Parts.{tail}
 use Rattle.patterns.specs.declared.Verdict.the-variants.{Overlap}
-use Rattle.patterns.specs.Search.{View, view, leftoverOverlap, absorbingSplit, sequence}
+use Rattle.patterns.specs.Search.{View, view, leftoverOverlap, size}
 use Rattle.patterns.proofs.Unfold.{leftover-view}
 use Rattle.rows.specs.Cells.{endsOf, low, high, both, endedBoth, PairTold, SplitsTold}
 use Rattle.rows.specs.Rows.{readAt, listedAt, behindTerms, closing, PatternFrom, Stands, Listed, Kept, Cells, Row, Lies, Beside, Above, Lists}
-use Rattle.rows.proofs.Words.{closed-first, closed-second, ends-both, ends-row, ends-column, ends-corner}
+use Rattle.rows.proofs.Words.{turned-told, closed-first, closed-second, ends-both, ends-row, ends-column, ends-corner}
+use Rattle.rows.proofs.Sizes.{stands-size}
 use Rattle.rows.proofs.Places.{place-some, kept-same, kept-then, kept-less}
-use Rattle.rows.proofs.Lists.{closing-next, kept-set}
+use Rattle.rows.proofs.Lists.{closing-next, kept-set, first-listed, some-listed}
 
 -- ---- entries
 
@@ -247,10 +248,26 @@ pub record Tabling (b m now : List ℕ) (a n row i beneath side : ℕ) (x y : Te
   pub word : beneath ≡ endedBoth (leftoverOverlap (behindTerms i x))
   pub side-told : SplitsTold (behindTerms i x) (behindTerms n y) side
 
--- The list at ys, once entries from the row on have changed.
+-- The lists, once entries from the row on have changed.
 module _ {b m now : List ℕ} {xs a ys n row : ℕ} (h : Lists b m xs a ys n row) (k : Kept row m now) where
+  pub listed-first : listedAt b m xs ≡ listedAt b now xs
+  listed-first = ap (readAt b) (sym (k .below xs (omega (arith, h .some .0, h .before .0))))
+
   pub listed-now : listedAt b m ys ≡ listedAt b now ys
   listed-now = ap (readAt b) (sym (k .below ys (omega (arith, h .some .1, h .before .1))))
+
+  pub lists-kept : Lists b now xs a ys n row
+  lists-kept = record {
+    few = h .few;
+    first = subst (λ (t : Terms). Listed b now xs a t) listed-first (listed-kept (h .before .0) k (h .first));
+    second = subst (λ (t : Terms). Listed b now ys n t) listed-now (listed-kept (h .before .1) k (h .second));
+    some = h .some;
+    before = h .before;
+    within = omega (arith, h .within, k .length);
+  }
+
+  pub told-before : (w : ℕ) → PairTold (listedAt b now xs) (listedAt b now ys) w → PairTold (listedAt b m xs) (listedAt b m ys) w
+  told-before w t = subst (λ (u : Terms). PairTold u (listedAt b m ys) w) (sym listed-first) (subst (λ (u : Terms). PairTold (listedAt b now xs) u w) (sym listed-now) t)
 
 pub lists-lie : {b m : List ℕ} {xs a ys n row : ℕ} → Lists b m xs a ys n row → row + 2 * n ≤ length m → Lies b m ys n row (listedAt b m ys)
 lists-lie h l = record { listed = h .second; before = h .before .1; fits = l }
@@ -271,6 +288,9 @@ module _ {b m now : List ℕ} {xs a ys n row : ℕ} (h : Lists b m xs a ys n row
 
     pub tabling-stands : Stands b p u
     tabling-stands = in-turn i p (h .before .0) (r .kept) (h .first) l (r .within) e
+
+    pub tabling-size : size (readAt b p) ≤ size (listedAt b m xs)
+    tabling-size = stands-size (i - 1) (listedAt b m xs) tabling-stands
 
     -- The cells at the close: w of the pair, g of the splits.
     module _ (w g : ℕ) (d : w ≡ closing (getD b p 0) beneath) (f : g ≡ both (low w) (endsOf (high w) (high side))) where
@@ -317,3 +337,40 @@ module _ {b m now : List ℕ} {xs a ys n row : ℕ} (h : Lists b m xs a ys n row
       let c = subst (λ (k : ℕ). Row now row 0 n (behindTerms k (listedAt b m xs)) (listedAt b m ys)) o (r .told) 0 (omega arith) (h .some .1) in
       let q : row + 2 * 0 ≡ row = omega arith in
       subst (λ (k : ℕ). PairTold (listedAt b m xs) (listedAt b m ys) k) (ap (λ (k : ℕ). getD now k 0) q ∙ sym e) (c .pair)
+
+-- ---- two patterns listed one behind the other
+
+-- x and y, from `from` and `ys` on, with room for a row behind them: either may have it.
+pub record Both (b m : List ℕ) (from ys row : ℕ) (x y : Terms) : Type 0 where
+  pub first-is : listedAt b m from ≡ x
+  pub second-is : listedAt b m ys ≡ y
+  pub lists : Lists b m from (ys - from) ys (row - ys) row
+  pub turned : Lists b m ys (row - ys) from (ys - from) row
+
+pub both-listed : {b old m : List ℕ} {from ys row : ℕ} {x y : Terms} → length b ≤ 32768 → (from ≤ ys) × (ys ≤ length old) × Listed b old from (ys - from) x → Kept ys old m
+    → (ys ≤ row) × (row ≤ length m) × Listed b m ys (row - ys) y → (view x ≡ View.nothing → ⊥) → (view y ≡ View.nothing → ⊥) → Both b m from ys row x y
+both-listed {b} {old} {m} {from} {ys} {row} {x} {y} f g k h d e =
+    let first : Listed b m from (ys - from) x = listed-kept (omega (arith, g .0)) k (g .2) in
+    let a : 0 < ys - from = some-listed first d in
+    let n : 0 < row - ys = some-listed (h .2) e in
+    let i : listedAt b m from ≡ x = first-listed first a in
+    let j : listedAt b m ys ≡ y = first-listed (h .2) n in
+    let u : Listed b m from (ys - from) (listedAt b m from) = subst (λ (t : Terms). Listed b m from (ys - from) t) (sym i) first in
+    let v : Listed b m ys (row - ys) (listedAt b m ys) = subst (λ (t : Terms). Listed b m ys (row - ys) t) (sym j) (h .2) in
+    let o : from + (ys - from) ≤ row = omega (arith, g .0, h .0) in
+    let p : ys + (row - ys) ≤ row = omega (arith, h .0) in
+    record {
+      first-is = i;
+      second-is = j;
+      lists = record { few = f; first = u; second = v; some = (a, n); before = (o, p); within = h .1 };
+      turned = record { few = f; first = v; second = u; some = (n, a); before = (p, o); within = h .1 };
+    }
+
+module _ {b m : List ℕ} {from ys row : ℕ} {x y : Terms} (k : Both b m from ys row x y) where
+  pub both-told : (w : ℕ) → PairTold (listedAt b m from) (listedAt b m ys) w → PairTold x y w
+  both-told w t = subst (λ (u : Terms). PairTold u y w) (k .first-is) (subst (λ (u : Terms). PairTold (listedAt b m from) u w) (k .second-is) t)
+
+  -- In the other order.
+  pub both-turned : (w r : ℕ) → r ≡ both (high w) (low w) → ((w ≡ 0 → ⊥) → PairTold (listedAt b m ys) (listedAt b m from) w) → (r ≡ 0 → ⊥) → PairTold x y r
+  both-turned w r e t n =
+      both-told r (subst (λ (u : ℕ). PairTold (listedAt b m from) (listedAt b m ys) u) (sym e) (turned-told (t (λ z. n (e ∙ ap (λ (u : ℕ). both (high u) (low u)) z)))))

@@ -7,3 +7,4 @@ pub mod Places
 pub mod Flat
 pub mod Lists
 pub mod Filling
+pub mod Sizes

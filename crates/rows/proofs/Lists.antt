@@ -1,5 +1,5 @@
 -- Terms passed one by one, and listed by their places.
-use Prim.Native.Nat.{ℕ, suc, _+_, _-_, _<_, _≤_}
+use Prim.Native.Nat.{ℕ, zero, suc, _+_, _-_, _<_, _≤_}
 use native.Mathlib.Omega.{arith}
 use mathlib.Core.Path.{_≡_, refl, sym, ap, _∙_, subst}
 use mathlib.Core.Bool.{Bool, true, false, cond}
@@ -98,3 +98,16 @@ module _ {b m : List ℕ} {p at k q : ℕ} (r : Listing b m p at k q) (o : getD 
 
 pub listing-done : {b m : List ℕ} {p at k q : ℕ} → Listing b m p at k q → getD b q 0 ≡ 15 → Listed b m at (k - at) (readAt b p)
 listing-done {b} {m} {p} {at} {k} r e = record { stands = r .stands; ends = subst (λ (t : Terms). view t ≡ View.nothing) (r .is) (place-empty (r .from) e) }
+
+-- The first of a list is the pattern that is listed, and there is one unless the pattern is empty.
+pub first-listed : {b m : List ℕ} {at n : ℕ} {t : Terms} → Listed b m at n t → 0 < n → readAt b (getD m at 0) ≡ t
+unfolding behindTerms
+first-listed {b} {m} {at} h l = let z : at ≡ at + 0 = omega arith in ap (λ (k : ℕ). readAt b (getD m k 0)) z ∙ h .stands 0 l .is
+
+pub some-listed : {b m : List ℕ} {at n : ℕ} {t : Terms} → Listed b m at n t → (view t ≡ View.nothing → ⊥) → 0 < n
+unfolding behindTerms
+some-listed {n = n} {t = t} h d = go n (h .ends)
+  where
+    go : (k : ℕ) → view (behindTerms k t) ≡ View.nothing → 0 < k
+    go zero e = absurd (d e)
+    go (suc k) e = omega arith

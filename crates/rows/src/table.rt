@@ -84,16 +84,17 @@ fn pair_at(
     if k == 6 {
         return absorb_second(right);
     }
-    if m == 7 {
-        if k == 7 {
-            let inner = table_of(b, p + 9, q + 9, top, room);
-            if inner == 0 {
-                return 0;
-            }
-            return behind_both(inner, diagonal);
-        }
+    if m != 7 {
+        return behind_both(flat_heads(b, p, q), diagonal);
     }
-    behind_both(flat_heads(b, p, q), diagonal)
+    if k != 7 {
+        return behind_both(flat_heads(b, p, q), diagonal);
+    }
+    let inner = table_of(b, p + 9, q + 9, top, room);
+    if inner == 0 {
+        return 0;
+    }
+    behind_both(inner, diagonal)
 }
 
 // The row of the tail at p, over that of the tail behind its first term; `beneath` and `side` are the cells at the close.

@@ -1,7 +1,7 @@
 -- Cells from cells: an entry more, tails behind heads, one end of a split and then the later ones.
-use Prim.Native.Nat.{ℕ, zero, suc, _+_, _-_, _*_, _/_, _%_, _<_, _≤_}
+use Prim.Native.Nat.{ℕ, zero, suc, _+_, _-_, _/_, _%_, _<_, _≤_}
 use native.Mathlib.Omega.{arith}
-use mathlib.Core.Path.{_≡_, refl, sym, ap, ap₂, _∙_, subst}
+use mathlib.Core.Path.{_≡_, refl, sym, ap, _∙_, subst}
 use mathlib.Core.Bool.{Bool, true, false, cond}
 use mathlib.Core.List.{List, [], _∷_}
 use lib.Dec.{eqb, ltb}
@@ -179,18 +179,18 @@ module _ (r o : Terms) (os : List Terms) (n m : ℕ) where
   abbrev Numbered : ℕ → ℕ → Type 0
   Numbered a b = Ending (cond (eqb a 2) n (stopped (cond (eqb b 1) (n + m - 1) (n - a + m))))
 
-  both-ends : (v x : Verdict) → n % 4 ≡ codeOf v → m % 4 ≡ codeOf x → Cell (λ f. sequence f r o) n → ((f : ℕ) → f ≤ 4096 → sequence f r o ≡ costing (n / 4) v f)
-      → (n / 4 ≤ 4097) → (4096 < n / 4 → v ≡ Unknown)
+  both-ends : (v x : Verdict) → n % 4 ≡ codeOf v → m % 4 ≡ codeOf x → ((f : ℕ) → f ≤ 4096 → sequence f r o ≡ costing (n / 4) v f)
+      → n / 4 ≤ 4097 → (4096 < n / 4 → v ≡ Unknown)
       → ((f : ℕ) → f ≤ 4096 → splitsFrom sequence r os Disjoint f ≡ costing (m / 4) x f) → Numbered (codeOf v) (codeOf x)
-  both-ends Disjoint Disjoint c d z h l u j = sum Disjoint Disjoint (n + m - 1) h j (omega (arith, c, d)) (omega (arith, c, d))
-  both-ends Disjoint Overlap c d z h l u j = sum Disjoint Overlap (n - 1 + m) h j (omega (arith, c, d)) (omega (arith, c, d))
-  both-ends Disjoint Unknown c d z h l u j = sum Disjoint Unknown (n - 1 + m) h j (omega (arith, c, d)) (omega (arith, c, d))
-  both-ends Overlap x c d z h l u j = record { verdict = Overlap; code = c; few = l; out = u; answers = met h }
-  both-ends Unknown Disjoint c d z h l u j = sum Unknown Unknown (n + m - 1) h (unknown-later Disjoint j) (omega (arith, c, d)) (omega (arith, c, d))
-  both-ends Unknown Overlap c d z h l u j = sum Unknown Overlap (n - 3 + m) h (unknown-later Overlap j) (omega (arith, c, d)) (omega (arith, c, d))
-  both-ends Unknown Unknown c d z h l u j = sum Unknown Unknown (n - 3 + m) h (unknown-later Unknown j) (omega (arith, c, d)) (omega (arith, c, d))
+  both-ends Disjoint Disjoint c d h l u j = sum Disjoint Disjoint (n + m - 1) h j (omega (arith, c, d)) (omega (arith, c, d))
+  both-ends Disjoint Overlap c d h l u j = sum Disjoint Overlap (n - 1 + m) h j (omega (arith, c, d)) (omega (arith, c, d))
+  both-ends Disjoint Unknown c d h l u j = sum Disjoint Unknown (n - 1 + m) h j (omega (arith, c, d)) (omega (arith, c, d))
+  both-ends Overlap x c d h l u j = record { verdict = Overlap; code = c; few = l; out = u; answers = met h }
+  both-ends Unknown Disjoint c d h l u j = sum Unknown Unknown (n + m - 1) h (unknown-later Disjoint j) (omega (arith, c, d)) (omega (arith, c, d))
+  both-ends Unknown Overlap c d h l u j = sum Unknown Overlap (n - 3 + m) h (unknown-later Overlap j) (omega (arith, c, d)) (omega (arith, c, d))
+  both-ends Unknown Unknown c d h l u j = sum Unknown Unknown (n - 3 + m) h (unknown-later Unknown j) (omega (arith, c, d)) (omega (arith, c, d))
 
   pub ends-cell : Cell (λ f. sequence f r o) n → Cell (λ f. splitsFrom sequence r os Disjoint f) m → Cell (λ f. splitsFrom sequence r (o ∷ os) Disjoint f) (endsOf n m)
   unfolding splitsFrom endsOf
   ends-cell s t =
-      rw (s .code, t .code) (both-ends (s .verdict) (t .verdict) (s .code) (t .code) s (s .answers) (s .few) (s .out) (t .answers))
+      rw (s .code, t .code) (both-ends (s .verdict) (t .verdict) (s .code) (t .code) (s .answers) (s .few) (s .out) (t .answers))

@@ -10,11 +10,10 @@ use lib.Seq.{getD-set-same, getD-set-other}
 use borrow.Author.Tests.{eqb-true, eqb-false}
 use Rattle.program.specs.Syntax.{Terms}
 use Rattle.image.specs.Parts.{tail}
-use Rattle.patterns.specs.declared.Verdict.the-variants.{Overlap}
 use Rattle.patterns.specs.Search.{View, view, leftoverOverlap, size}
 use Rattle.patterns.proofs.Unfold.{leftover-view}
 use Rattle.rows.specs.Cells.{endsOf, low, high, both, endedBoth, PairTold, SplitsTold}
-use Rattle.rows.specs.Rows.{readAt, listedAt, behindTerms, closing, PatternFrom, Stands, Listed, Kept, Cells, Row, Lies, Beside, Above, Lists}
+use Rattle.rows.specs.Rows.{readAt, listedAt, behindTerms, closing, Stands, Listed, Kept, Cells, Row, Lies, Beside, Above, Lists}
 use Rattle.rows.proofs.Words.{turned-told, closed-first, closed-second, ends-both, ends-row, ends-column, ends-corner}
 use Rattle.rows.proofs.Sizes.{stands-size}
 use Rattle.rows.proofs.Places.{place-some, kept-same, kept-then, kept-less}

@@ -4,7 +4,7 @@ use native.Mathlib.Omega.{arith}
 use mathlib.Core.Path.{_≡_, refl, sym, ap, _∙_}
 use mathlib.Core.Bool.{Bool}
 use mathlib.Core.List.{List}
-use lib.ListN.{length, drop, getD}
+use lib.ListN.{getD}
 use Rattle.image.specs.Parts.{tail}
 use Rattle.patterns.specs.declared.Verdict.{Verdict}
 use Rattle.patterns.specs.declared.Verdict.the-variants.{Disjoint, Overlap}
@@ -13,7 +13,7 @@ use Rattle.patterns.specs.Search.{One, View, view, literalOverlap, overlapOfTer
 use Rattle.patterns.proofs.Symbols.{sameSymbol-sym}
 use Rattle.rows.specs.Parts.{HeadAt}
 use Rattle.rows.specs.Cells.{codeOf, both, low, high}
-use Rattle.rows.specs.Rows.{readAt, PatternFrom, Flat, HeadsTold}
+use Rattle.rows.specs.Rows.{readAt, Flat, HeadsTold}
 use Rattle.symbols.specs.Parts.{SymbolAt}
 use Rattle.rows.proofs.Readings.{part, mark-in, head-at}
 use Rattle.rows.proofs.Heads.{literal-at, first-bracket-low, first-bracket-high, second-bracket-low, second-bracket-high, first-variable, second-variable, two-literals}

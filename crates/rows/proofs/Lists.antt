@@ -5,7 +5,7 @@ use mathlib.Core.Path.{_≡_, refl, sym, ap, _∙_, subst}
 use mathlib.Core.Bool.{Bool, true, false, cond}
 use mathlib.Core.List.{List}
 use lib.Dec.{eqb}
-use lib.ListN.{length, drop, getD, set, length-set}
+use lib.ListN.{length, getD, set, length-set}
 use lib.Seq.{getD-set-same, getD-set-other}
 use borrow.Author.Tests.{eqb-true, eqb-false}
 use Rattle.program.specs.Encode.{putTerms}
@@ -19,7 +19,7 @@ use Rattle.patterns.proofs.Unfold.{leftover-view}
 use Rattle.rows.specs.Cells.{endedBoth}
 use Rattle.rows.specs.Rows.{readAt, behindTerms, closing, PatternFrom, Stands, Listed, Kept}
 use Rattle.rows.proofs.Readings.{part, part-length, mark-in, inside, term-long}
-use Rattle.rows.proofs.Places.{reading, reading-part, place-empty, place-some, place-absorbing, place-one, place-next, next-is, kept-same, kept-then}
+use Rattle.rows.proofs.Places.{reading-part, place-empty, place-absorbing, place-one, place-next, next-is}
 
 -- ---- what is left over
 

@@ -1,18 +1,18 @@
 -- Terms at places of a body, by their first mark.
-use Prim.Native.Nat.{ℕ, zero, suc, _+_, _-_, _*_, _<_, _≤_}
+use Prim.Native.Nat.{ℕ, _+_, _-_, _≤_}
 use native.Mathlib.Omega.{arith}
 use mathlib.Core.Path.{_≡_, refl, sym, ap, _∙_, subst}
 use mathlib.Core.List.{List, [], _∷_}
-use lib.ListN.{length, drop, getD, set, length-set}
-use Rattle.program.specs.Syntax.{Terms, nil, symbol, variable, bracket, call, block}
+use lib.ListN.{length, drop, getD}
+use Rattle.program.specs.Syntax.{Terms}
 use Rattle.program.specs.Encode.{putTerms}
 use Rattle.program.specs.Limits.{Mode, ValidTerms}
 use Rattle.program.specs.Automaton.{Stack, Read, made, atEnd, follow, turn, run}
 use Rattle.program.proofs.Complete.{run-terms}
 use Rattle.image.specs.Parts.{Passes, TermsAt, tail}
 use Rattle.image.proofs.Readings.{as-result}
-use Rattle.patterns.specs.Search.{One, View, view, size}
-use Rattle.rows.specs.Rows.{firstRead, termsOf, readAt, behindTerms, PatternFrom, Stands, Kept}
+use Rattle.patterns.specs.Search.{One, View, view}
+use Rattle.rows.specs.Rows.{firstRead, termsOf, readAt, PatternFrom, Kept}
 use Rattle.rows.proofs.Readings.{part, at-part, mark-in, is-empty, is-not-empty, is-absorbing, one-head, after-term}
 
 run-any : (k : List ℕ) → run Stack.any 0 k ≡ Read.value k

@@ -1,21 +1,20 @@
 -- What two brackets hold, and that it is smaller: the measure of the cycle.
-use Prim.Native.Nat.{ℕ, zero, suc, _+_, _%_, _<_, _≤_}
+use Prim.Native.Nat.{ℕ, zero, suc, _+_, _<_, _≤_}
 use native.Mathlib.Omega.{arith}
-use mathlib.Core.Path.{_≡_, refl, sym, ap, ap₂, _∙_, subst}
+use mathlib.Core.Path.{_≡_, sym, ap, ap₂, _∙_, subst}
 use mathlib.Core.List.{List}
-use lib.ListN.{length, drop, getD}
+use lib.ListN.{drop, getD}
 use lib.Seq.{drop-drop}
 use Rattle.program.specs.Syntax.{Terms, nil, symbol, variable, bracket, call, block}
-use Rattle.program.specs.Limits.{Mode}
-use Rattle.image.specs.Parts.{TermsAt, tail}
+use Rattle.image.specs.Parts.{tail}
 use Rattle.symbols.proofs.Parts.{part-rest}
 use Rattle.patterns.specs.Search.{One, View, view, size, start, overlapOfTerms, sequence}
 use Rattle.patterns.proofs.Size.{Below, view-below}
 use Rattle.rows.specs.Parts.{HeadAt}
-use Rattle.rows.specs.Cells.{codeOf, low, high, PairTold}
+use Rattle.rows.specs.Cells.{codeOf, PairTold}
 use Rattle.rows.specs.Rows.{readAt, behindTerms, PatternFrom, Stands, HeadsTold}
-use Rattle.rows.proofs.Readings.{part, mark-in, head-at}
-use Rattle.rows.proofs.Heads.{BracketAt, bracket-at}
+use Rattle.rows.proofs.Readings.{part, mark-in}
+use Rattle.rows.proofs.Heads.{bracket-at}
 use Rattle.rows.proofs.Words.{cell-verdict}
 use Rattle.rows.proofs.Places.{reading-part, read-is, place-one}
 

@@ -1,5 +1,5 @@
 -- Cells of two sequences in both orders, by what the sequences begin with.
-use Prim.Native.Nat.{ℕ, suc, _+_, _*_, _/_, _%_, _<_, _≤_}
+use Prim.Native.Nat.{ℕ, _/_, _%_, _<_}
 use native.Mathlib.Omega.{arith}
 use mathlib.Core.Path.{_≡_, refl, sym, ap, _∙_, subst}
 use mathlib.Core.List.{List, [], _∷_}
@@ -10,10 +10,10 @@ use Rattle.patterns.specs.declared.Verdict.the-variants.{Disjoint, Overlap, Unk
 use Rattle.patterns.specs.declared.Found.{Found}
 use Rattle.patterns.specs.Search.{found, One, View, view, leftoverOverlap, ends, afterSplit, splitsFrom, absorbingSplit, start, overlapOfTerms, sequence}
 use Rattle.patterns.proofs.Unfold.{no-fuel, absorbing-begins, one-begins, empty-first, empty-second, first-absorbs, second-absorbs, heads-compared}
-use Rattle.rows.specs.Cells.{codeOf, costing, Cell, spent, behindOf, endsOf, low, high, both, endedBoth, PairTold, SplitsTold}
+use Rattle.rows.specs.Cells.{codeOf, Cell, spent, behindOf, endsOf, low, high, both, endedBoth, PairTold, SplitsTold}
 use Rattle.rows.specs.Rows.{HeadsTold}
 use Rattle.rows.proofs.Costs.{too-little, enough, either}
-use Rattle.rows.proofs.Cells.{code-low, spent-cell, ended-cell, behind-cell, ends-cell}
+use Rattle.rows.proofs.Cells.{spent-cell, ended-cell, behind-cell, ends-cell}
 
 -- A cell is below 65,536.
 small : {s : ℕ → Found} {n : ℕ} → Cell s n → n < 65536

@@ -14,7 +14,7 @@ use crate::terms::leftover;
 use crate::terms::list_terms;
 ghost use mathlib.Core.Path.{_≡_};
 ghost use mathlib.Core.Bool.{true};
-ghost use Prim.Native.Nat.{ℕ, _+_, _<_, _≤_};
+ghost use Prim.Native.Nat.{_+_, _<_, _≤_};
 ghost use lib.ListN.{length, getD, set};
 ghost use Rattle.program.specs.Syntax.{Terms};
 ghost use Rattle.patterns.specs.Search.{View, view};

@@ -3,7 +3,7 @@ use image::part::term_len;
 use symbols::same_symbol;
 ghost use mathlib.Core.Path.{_≡_};
 ghost use Prim.Native.Nat.{_-_, _≤_};
-ghost use lib.ListN.{length, getD};
+ghost use lib.ListN.{length};
 ghost use Rattle.patterns.specs.Search.{leftoverOverlap};
 ghost use Rattle.rows.specs.Cells.{endedBoth};
 ghost use Rattle.rows.specs.Rows.{readAt, closing, PatternFrom, Flat, HeadsTold, Listed, Kept};

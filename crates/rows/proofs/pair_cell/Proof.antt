@@ -1,13 +1,13 @@
 -- `rows::pair_cell` meets its contract: the first cell of the word at the places of the two tails.
 use Prim.Native.Nat.{ℕ}
-use mathlib.Core.Path.{_≡_, sym, ap, ap₂, _∙_, subst}
+use mathlib.Core.Path.{_≡_, sym, ap, _∙_, subst}
 use mathlib.Core.List.{List}
 use borrow.Author.Needs.{needs}
 use Rattle.program.specs.Syntax.{Terms}
 use Rattle.program.specs.Limits.{Mode}
 use Rattle.image.specs.Parts.{TermsAt}
 use Rattle.patterns.specs.Search.{sequence}
-use Rattle.rows.specs.Parts.{placeOf, TailOf, PatternIn}
+use Rattle.rows.specs.Parts.{placeOf, TailOf}
 use Rattle.rows.specs.Cells.{Cell, CellTold, low, PairTold}
 use Rattle.rows.specs.Rows.{readAt, PatternFrom}
 use Rattle.rows.proofs.Readings.{in-body}
@@ -48,7 +48,7 @@ returns c =
     let s = (c .before .before .before .before .before .before .before .before .before) .pre in
     let o = (c .before .before .before) .table-of in
     let e = c .low-of .ensures .0 in
-    (λ n x y. first-told (s .0 .tail) (s .1 .tail) (o .result) (c .low-of .result) e (o .ensures .0 (λ z. n (e ∙ ap low z))) x y, o .ensures .1)
+    (λ n x y. first-told (s .0 .tail) (s .1 .tail) (o .result) (c .low-of .result) e (o .ensures .0 (λ z. n (e ∙ ap low z))) x y, (o .ensures .1 .length, o .ensures .1 .below))
 
 pub pair-cell-spec : {M : Type 1} → statement M
 pair-cell-spec = tie.close (tie.spec sub-p sub-q table-of-requires low-of-requires same-length returns)

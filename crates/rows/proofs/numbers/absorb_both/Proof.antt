@@ -1,3 +1,4 @@
+-- `rows::numbers::absorb_both` meets its contract.
 use borrow.Author.Needs.{needs}
 use Rattle.rows.proofs.numbers.absorb_both.Statement.{statement}
 use Rattle.rows.proofs.numbers.absorb_both.Tie as tie

@@ -1,3 +1,4 @@
+-- `rows::numbers::absorb_first` meets its contract.
 use borrow.Author.Needs.{needs}
 use Rattle.rows.proofs.numbers.absorb_first.Statement.{statement}
 use Rattle.rows.proofs.numbers.absorb_first.Tie as tie

@@ -1,3 +1,4 @@
+-- `rows::numbers::absorb_second` meets its contract.
 use borrow.Author.Needs.{needs}
 use Rattle.rows.proofs.numbers.absorb_second.Statement.{statement}
 use Rattle.rows.proofs.numbers.absorb_second.Tie as tie

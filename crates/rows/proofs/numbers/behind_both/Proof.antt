@@ -1,3 +1,4 @@
+-- `rows::numbers::behind_both` meets its contract.
 use borrow.Author.Needs.{needs}
 use Rattle.rows.proofs.numbers.behind_both.Statement.{statement}
 use Rattle.rows.proofs.numbers.behind_both.Tie as tie

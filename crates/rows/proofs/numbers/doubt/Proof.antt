@@ -1,6 +1,7 @@
+-- `rows::numbers::doubt` meets its contract.
 use Rattle.rows.specs.Cells.{unsure}
 use native.Mathlib.Omega.{arith}
-use borrow.Author.Tests.{lt-ltb, le-ltb, eq-eqb, ne-eqb}
+use borrow.Author.Tests.{eq-eqb, ne-eqb}
 use borrow.Author.Needs.{needs}
 use Rattle.rows.proofs.numbers.doubt.Statement.{statement}
 use Rattle.rows.proofs.numbers.doubt.Tie as tie

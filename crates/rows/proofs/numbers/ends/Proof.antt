@@ -1,3 +1,4 @@
+-- `rows::numbers::ends` meets its contract.
 use native.Mathlib.Omega.{arith}
 use mathlib.Core.Path.{_∙_}
 use Rattle.rows.specs.Cells.{endsOf}

@@ -1,3 +1,4 @@
+-- `rows::numbers::ends_both` meets its contract.
 use borrow.Author.Needs.{needs}
 use Rattle.rows.proofs.numbers.ends_both.Statement.{statement}
 use Rattle.rows.proofs.numbers.ends_both.Tie as tie

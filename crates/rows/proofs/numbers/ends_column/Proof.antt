@@ -1,3 +1,4 @@
+-- `rows::numbers::ends_column` meets its contract.
 use borrow.Author.Needs.{needs}
 use Rattle.rows.proofs.numbers.ends_column.Statement.{statement}
 use Rattle.rows.proofs.numbers.ends_column.Tie as tie

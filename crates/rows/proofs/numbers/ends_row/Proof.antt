@@ -1,3 +1,4 @@
+-- `rows::numbers::ends_row` meets its contract.
 use borrow.Author.Needs.{needs}
 use Rattle.rows.proofs.numbers.ends_row.Statement.{statement}
 use Rattle.rows.proofs.numbers.ends_row.Tie as tie

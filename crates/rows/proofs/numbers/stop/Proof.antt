@@ -1,6 +1,7 @@
+-- `rows::numbers::stop` meets its contract.
 use Rattle.rows.specs.Cells.{stopped}
 use native.Mathlib.Omega.{arith}
-use borrow.Author.Tests.{lt-ltb, le-ltb, eq-eqb, ne-eqb}
+use borrow.Author.Tests.{lt-ltb, le-ltb}
 use Rattle.rows.proofs.numbers.stop.Statement.{statement}
 use Rattle.rows.proofs.numbers.stop.Tie as tie
 

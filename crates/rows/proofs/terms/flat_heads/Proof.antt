@@ -1,6 +1,6 @@
 -- `rows::terms::flat_heads` meets its contract: each answer follows the two marks.
 use native.Mathlib.Omega.{arith}
-use mathlib.Core.Path.{refl, sym, ap, _∙_}
+use mathlib.Core.Path.{refl, sym, _∙_}
 use mathlib.Core.Bool.{true, false}
 use Rattle.patterns.specs.Search.{literalOverlap}
 use borrow.Author.Needs.{needs}

@@ -1,7 +1,7 @@
 -- `rows::terms::list_terms` meets its contract.
-use Prim.Native.Nat.{ℕ, _+_, _-_, _<_, _≤_}
+use Prim.Native.Nat.{_+_, _-_, _<_, _≤_}
 use native.Mathlib.Omega.{arith}
-use mathlib.Core.Path.{refl, sym, _∙_}
+use mathlib.Core.Path.{refl}
 use lib.ListN.{length, length-set}
 use Rattle.program.specs.Limits.{Mode}
 use Rattle.rows.specs.Rows.{Kept}

@@ -1,11 +1,10 @@
 -- `rows::table::fill_row`, as a member of its cycle of calls.
-use Prim.Native.Nat.{ℕ, _+_, _-_, _*_, _<_, _≤_}
+use Prim.Native.Nat.{ℕ, _+_, _-_, _*_, _<_}
 use native.Mathlib.Omega.{arith}
-use mathlib.Core.Path.{_≡_, refl, sym, ap, _∙_}
+use mathlib.Core.Path.{_≡_, _∙_}
 use mathlib.Core.Bool.{false≢true}
 use lib.ListN.{length}
-use Rattle.patterns.specs.Search.{size}
-use Rattle.rows.specs.Rows.{readAt, listedAt, behindTerms, Stands, Beside}
+use Rattle.rows.specs.Rows.{listedAt, behindTerms, Stands, Beside}
 use Rattle.rows.proofs.Places.{kept-then, kept-less}
 use Rattle.rows.proofs.Filling.{Filling, filling-first, filling-stands, filling-beside, filling-turn, filling-done}
 use Rattle.rows.proofs.Sizes.{stands-size}
@@ -60,9 +59,6 @@ module _ (t : ℕ) where
   entry-at-requires-3 c κs = omega (arith, fits ((c .before .before .before .before .before)))
 
   -- The pair in turn.
-  abbrev Read : Type 0
-  Read = lts.After-entry-at3 (claims t) (at t) fill-row.Post Inv-loop μ-loop
-
   stands : (c : lts.After-entry-at3 (claims t) (at t) fill-row.Post Inv-loop μ-loop) → Stands ((c .before .before .before .before .before .before .before .before .before .before) .args .b .now) ((c .before .before .before .before) .entry-at .result) (behindTerms ((c .before .before .before .before .before .before .before) .loop .j - 1) (listedAt ((c .before .before .before .before .before .before .before .before .before .before) .args .b .now) ((c .before .before .before .before .before .before .before .before .before .before) .args .room .now) ((c .before .before .before .before .before .before .before .before .before .before) .args .ys)))
   stands c = filling-stands ((c .before .before .before .before .before .before .before .before .before .before) .pre .1) ((c .before .before .before .before .before .before .before) .loop .inv) ((c .before .before .before .before .before .before) .loop-test .taken) ((c .before .before .before .before) .entry-at .result) ((c .before .before) .entry-at2 .result) (c .entry-at3 .result) ((c .before .before .before .before) .entry-at .ensures) ((c .before .before) .entry-at2 .ensures) (c .entry-at3 .ensures)
 

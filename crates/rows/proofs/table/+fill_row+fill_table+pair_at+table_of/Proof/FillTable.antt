@@ -1,12 +1,11 @@
 -- `rows::table::fill_table`, as a member of its cycle of calls.
-use Prim.Native.Nat.{ℕ, _+_, _-_, _*_, _<_, _≤_}
+use Prim.Native.Nat.{ℕ, _+_, _-_, _*_, _≤_}
 use native.Mathlib.Omega.{arith}
-use mathlib.Core.Path.{_≡_, refl, ap, _∙_, subst}
+use mathlib.Core.Path.{refl, ap, _∙_}
 use lib.ListN.{length}
 use borrow.Author.Tests.{not-false}
-use Rattle.program.specs.Syntax.{Terms}
 use Rattle.patterns.specs.Search.{size}
-use Rattle.rows.specs.Rows.{listedAt, Lists, Row}
+use Rattle.rows.specs.Rows.{listedAt, Lists}
 use Rattle.rows.proofs.Places.{kept-same, kept-then}
 use Rattle.rows.proofs.Lists.{place-in}
 use Rattle.rows.proofs.Filling.{Tabling, lists-lie, listed-first, listed-now, lists-kept, told-before, tabling-first, tabling-stands, tabling-size, tabling-above, tabling-turn, tabling-done}

@@ -1,5 +1,5 @@
 -- `rows::table::table_of`, as a member of its cycle of calls.
-use Prim.Native.Nat.{ℕ, _+_, _-_, _*_, _<_, _≤_}
+use Prim.Native.Nat.{ℕ, _-_}
 use native.Mathlib.Omega.{arith}
 use mathlib.Core.Path.{refl, sym, ap, _∙_, subst}
 use Rattle.patterns.specs.Search.{size}

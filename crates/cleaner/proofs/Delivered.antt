@@ -85,7 +85,7 @@ marks-are m p {from} d e = ap (λ (k : ℕ). take (k - from) (drop from m)) e �
 
 -- ---- verdicts have been asked meanwhile
 
-module _ {b : List ℕ} {p : Plan} {old new : List ℕ} (u : Used b p old new) where
+module _ {p : Plan} {old new : List ℕ} (u : Used p old new) where
   pub marks-used : room p ≤ length old → marksIn p new ≡ marksIn p old
   marks-used h =
       let k = calls p - marks p in

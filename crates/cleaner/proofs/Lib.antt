@@ -3,6 +3,5 @@ pub mod Wrote
 pub mod Delivered
 pub mod Ends
 pub mod AfterRounds
-pub mod Searching
 pub mod Start
 pub mod Packing

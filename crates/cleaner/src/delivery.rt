@@ -11,11 +11,9 @@ use report::format::count_lists;
 use report::format::format_clean_report;
 use report::format::measure_clean_report;
 ghost use Prim.Native.Nat.{_≤_};
-ghost use lib.ListN.{length, take};
+ghost use lib.ListN.{length};
 ghost use mathlib.Core.Path.{_≡_};
-ghost use Rattle.program.specs.Decode.{bodyLength};
 ghost use Rattle.image.specs.Parts.{Accepted};
-ghost use Rattle.cleaning.specs.Room.{Remembering};
 ghost use Rattle.cleaner.specs.Writing.{Wrote};
 ghost use Rattle.cleaner.specs.Delivery.{Delivery, SomeDelivery};
 
@@ -29,7 +27,7 @@ pub fn deliver(
     rounds: usize,
     report: &mut [u8],
 ) -> CleanAnswer
-    requires { ⌜ SomeDelivery (now img) (now work) plan root rounds × (length (now img) ≤ length (now output)) × Remembering (take (bodyLength (now img)) (now img)) plan (now work) ⌝ }
+    requires { ⌜ SomeDelivery (now img) (now work) plan root rounds × (length (now img) ≤ length (now output)) ⌝ }
     ensures wrote { λ r. ⌜ ((a : Accepted (now (img .entry))) → Delivery (now (img .entry)) a (now (work .entry)) plan root rounds → Wrote (a .program) (now (output .entry)) (now (report .entry)) r (now (output .exit)) (now (report .exit))) ⌝ }
     ensures same { λ _. ⌜ length (now (work .exit)) ≡ length (now (work .entry)) ⌝ }
 {

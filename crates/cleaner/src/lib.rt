@@ -9,7 +9,6 @@ use answers::CleanAnswer;
 use answers::Comparison;
 use answers::OverlapAnswer;
 use image::part::Found as Place;
-use overlap::Room;
 use program::Refusal;
 use reader::check::Checked;
 ghost use mathlib.Core.Path.{_≡_};
@@ -65,21 +64,16 @@ fn no_sentence() -> OverlapAnswer
     })
 }
 
-// The sentences at i and j of a body b, by their patterns. The search has entries of its own: one for each `e.` variable
-// of a body, twice, as a sentence may be compared with itself, how the first 768 of them began, and tables of 192 slots.
+// The sentences at i and j of a body b, by their patterns. The search has entries of its own, enough for the rows of any two
+// patterns, also of the longest sentence against itself.
 fn compare(b: &[u8], i: usize, j: usize) -> OverlapAnswer
     requires { ⌜ PatternFrom (now b) i × PatternFrom (now b) j × (length (now b) ≤ 32768) ⌝ }
     ensures { λ r. ⌜ ((x : PatternFrom (now (b .entry)) i) (y : PatternFrom (now (b .entry)) j) → r ≡ comparePatterns (x .terms) (y .terms)) ⌝ }
 {
     let p = i + 9;
     let q = j + 9;
-    let mut room = [0u32; 7878];
-    let lent = Room {
-        frames: 5958,
-        begun: 768,
-        slots: 192,
-    };
-    let f = overlap::patterns_overlap(b, p, q, &mut room, lent);
+    let mut room = [0u32; 9920];
+    let f = overlap::patterns_overlap(b, p, q, &mut room);
     let verdict = f.verdict;
     let spent = 4096 - f.fuel;
     OverlapAnswer::Compared(Comparison { verdict, spent })

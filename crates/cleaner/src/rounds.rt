@@ -3,14 +3,11 @@ use cleaning::prepare::link_program;
 use cleaning::root::root_place;
 use cleaning::rounds::clean_rounds;
 use index::Plan;
-use index::columns::room_of;
-use index::listing::fill;
 use output::left::mark_left;
 ghost use Prim.Native.Nat.{_<_, _≤_};
 ghost use lib.ListN.{length};
 ghost use mathlib.Core.Path.{_≡_};
 ghost use Rattle.program.specs.Syntax.{Program};
-ghost use Rattle.cleaning.specs.Room.{Remembering};
 ghost use Rattle.cleaning.specs.Prepared.{ProgramListed, SomeListing};
 ghost use Rattle.cleaner.specs.Done.{Done};
 
@@ -20,17 +17,14 @@ pub struct Rounds {
     pub rounds: usize,
 }
 
-// Links the sites, clears the room for searches, goes through the rounds, and marks the sentences that are left.
+// Links the sites, goes through the rounds, and marks the sentences that are left.
 pub fn clean_listed(b: &[u8], work: &mut [u32], plan: Plan) -> Rounds
     requires { ⌜ SomeListing (now b) (now work) plan × (length (now b) ≤ 32768) ⌝ }
     ensures done { λ r. ⌜ ((w : Program) → ProgramListed (now (b .entry)) w (now (work .entry)) plan → Done (now (b .entry)) w (now (work .exit)) plan (r .root) (r .rounds)) ⌝ }
     ensures few { λ r. ⌜ r .rounds < 4096 ⌝ }
-    ensures remembers { λ _. ⌜ Remembering (now (b .entry)) plan (now (work .exit)) ⌝ }
     ensures same { λ r. ⌜ length (now (work .exit)) ≡ length (now (work .entry)) ⌝ }
 {
     link_program(b, work, plan);
-    let end = work.len();
-    fill(work, room_of(plan), end, 0);
     let root = root_place(b, work, plan.functions);
     let rounds = clean_rounds(b, work, plan, root);
     mark_left(work, plan);

@@ -17,7 +17,7 @@ use Rattle.patterns.specs.declared.Verdict.the-variants.{Disjoint, Overlap, Unk
 use Rattle.patterns.specs.declared.Found as search
 use Rattle.patterns.specs.Search.{patternsOverlap, sequence, start}
 use Rattle.overlap.specs.Steps as steps
-use Rattle.overlap.proofs.Readings.{part}
+use Rattle.rows.proofs.Readings.{part}
 use Rattle.patterns.specs.Configuration.{sameConfiguration}
 use Rattle.told.specs.Numbered.{Held, sitesOf}
 use Rattle.restrictions.specs.Entries.{entrySentence}

@@ -18,13 +18,11 @@ use Rattle.meaning.specs.Root.{rootPlace}
 use Rattle.told.specs.Asked.{isJudged}
 use Rattle.told.specs.History.{isThere, someNumber}
 use Rattle.cleaning.specs.Indexed.{Indexed, fellOf, OnlyRounds}
-use Rattle.cleaning.specs.Room.{Remembering}
 use Rattle.cleaning.specs.Walks.{Owns, ColumnsApart, WitnessOf, Witnessed}
 use Rattle.cleaning.specs.RoundDone.{rejectsIn, someIn, RoundSoFar, isSpent, JudgedUpto, fallsNow, OneFell, Changed, SentencesDropped, RoundReady, RoundAt, RoundMade}
 use Rattle.cleaning.proofs.Indexed.{only-rounds-indexed, witness-later}
 use Rattle.cleaning.proofs.Judging.{none-first, none-second, witnesses-only, witnesses-fell}
 use Rattle.cleaning.proofs.Owned.{before-later, before-most}
-use Rattle.cleaning.proofs.Room.{remembering-kept}
 use Rattle.cleaning.proofs.RoundDone.{there-old, round-same, round-below, round-told}
 use Rattle.cleaning.proofs.RoundSteps.{some-in, none-in, rejects-root, rejects-passed, rejects-judged, some-none, some-one, so-far-next, skipped, changed-falls}
 
@@ -66,9 +64,6 @@ module _ {p : Plan} {one two : List ℕ} {first end r : ℕ} {before dropped : B
       by s true e u g = ap (λ (n : ℕ). n % 32768) (dropped-before s (ltb-true s first e))
       by s false e true g = h .place s (ltb-false s first e) (ltb-true s end g)
       by s false e false g = ap (λ (n : ℕ). n % 32768) (dropped-after s (ltb-false s end g))
-
-  pub dropped-remembers : (b : List ℕ) → Remembering b p one → Remembering b p two
-  dropped-remembers b = remembering-kept b p one two (h .others .length) (λ k l. h .others .after k (λ e. omega (arith, e, l, within)))
 
   dropped-witnessed : (keep : ℕ → Bool) (w : Program) → Witnessed keep w one p → Witnessed keep w two p
   dropped-witnessed keep w a = record {

@@ -17,7 +17,6 @@ ghost use Rattle.index.specs.Layout.{witnesses, marks};
 ghost use Rattle.told.specs.Numbered.{sentencesBefore, sitesOf};
 ghost use Rattle.told.specs.History.{isThere};
 ghost use Rattle.cleaning.specs.Indexed.{Indexed, SomeBody, fellOf};
-ghost use Rattle.cleaning.specs.Room.{Remembering};
 ghost use Rattle.cleaning.specs.Walks.{Owns, OneColumn, ColumnsApart, WitnessOf, Witnessed, SomeOwned};
 ghost use Rattle.cleaning.specs.RoundDone.{JudgedUpto, SentenceJudged, SentenceDropped, SentencesDropped, SomeFunction, RoundReady, SomeRoundReady, RoundAt, SomeRoundAt, RoundMade, RoundsReady, SomeRoundsReady, RoundsMade};
 
@@ -42,10 +41,9 @@ fn judge_sentence(
     round: usize,
     before: bool,
 ) -> bool
-    requires { ⌜ SomeOwned (now b) (now work) plan (isThere (fellOf plan (now work)) round) f s × (length (now b) ≤ 32768) × Remembering (now b) plan (now work) ⌝ }
+    requires { ⌜ SomeOwned (now b) (now work) plan (isThere (fellOf plan (now work)) round) f s × (length (now b) ≤ 32768) ⌝ }
     ensures judged { λ r. ⌜ ((w : Program) (x : Function) (y : Sentence) → Indexed (now (b .entry)) w (now (work .entry)) plan → Owns w f x s y → WitnessOf (isThere (fellOf plan (now (work .entry))) round) (x .name) (y .pattern) (sitesOf w) (getD (now (work .entry)) (witnesses plan + s) 0) → SentenceJudged w (isThere (fellOf plan (now (work .entry))) round) (now (work .exit)) plan x s y before r) ⌝ }
     ensures others { λ r. ⌜ OneColumn plan (now (work .entry)) (now (work .exit)) (witnesses plan + s) ⌝ }
-    ensures remembers { λ _. ⌜ Remembering (now (b .entry)) plan (now (work .exit)) ⌝ }
 {
     if is_there(work, plan, s, round) {
         if still_met(b, work, plan, f, s, round) {
@@ -65,10 +63,9 @@ fn judge(
     end: usize,
     round: usize,
 ) -> bool
-    requires { ⌜ SomeFunction (now b) (now work) plan f first end round × (length (now b) ≤ 32768) × Remembering (now b) plan (now work) ⌝ }
+    requires { ⌜ SomeFunction (now b) (now work) plan f first end round × (length (now b) ≤ 32768) ⌝ }
     ensures judged { λ r. ⌜ ((w : Program) (x : Function) → Indexed (now (b .entry)) w (now (work .entry)) plan → getElem? (w .functions) f ≡ some x → Witnessed (isThere (fellOf plan (now (work .entry))) round) w (now (work .entry)) plan → first ≡ sentencesBefore f (w .functions) → end ≡ sentencesBefore (suc f) (w .functions) → Witnessed (isThere (fellOf plan (now (work .entry))) round) w (now (work .exit)) plan × JudgedUpto w (isThere (fellOf plan (now (work .entry))) round) (now (work .exit)) plan f x end r) ⌝ }
     ensures others { λ _. ⌜ ColumnsApart plan (now (work .entry)) (now (work .exit)) (witnesses plan + first) (witnesses plan + end) ⌝ }
-    ensures remembers { λ _. ⌜ Remembering (now (b .entry)) plan (now (work .exit)) ⌝ }
 {
     let mut s = first;
     let mut met = false;
@@ -127,9 +124,8 @@ fn clean_function(
     round: usize,
     before: bool,
 ) -> bool
-    requires { ⌜ SomeRoundAt (now b) (now work) plan root round f before × (f < plan .functions) × (length (now b) ≤ 32768) × Remembering (now b) plan (now work) ⌝ }
-    ensures done { λ r. ⌜ ((w : Program) (old : List ℕ) → RoundReady (now (b .entry)) w old plan root round → RoundAt (now (b .entry)) w old (now (work .entry)) plan round f before → RoundAt (now (b .entry)) w old (now (work .exit)) plan round (suc f) r) ⌝ }
-    ensures remembers { λ _. ⌜ Remembering (now (b .entry)) plan (now (work .exit)) ⌝ }
+    requires { ⌜ SomeRoundAt (now b) (now work) plan root round f before × (f < plan .functions) × (length (now b) ≤ 32768) ⌝ }
+    ensures { λ r. ⌜ ((w : Program) (old : List ℕ) → RoundReady (now (b .entry)) w old plan root round → RoundAt (now (b .entry)) w old (now (work .entry)) plan round f before → RoundAt (now (b .entry)) w old (now (work .exit)) plan round (suc f) r) ⌝ }
 {
     if f == root {
         return before;
@@ -147,9 +143,8 @@ fn clean_function(
 
 // One round over the functions; whether anything fell.
 fn clean_once(b: &[u8], work: &mut [u32], plan: Plan, root: usize, round: usize) -> bool
-    requires { ⌜ SomeRoundReady (now b) (now work) plan root round × (length (now b) ≤ 32768) × Remembering (now b) plan (now work) ⌝ }
-    ensures made { λ r. ⌜ ((w : Program) → RoundReady (now (b .entry)) w (now (work .entry)) plan root round → RoundMade (now (b .entry)) w (now (work .entry)) (now (work .exit)) plan round r) ⌝ }
-    ensures remembers { λ _. ⌜ Remembering (now (b .entry)) plan (now (work .exit)) ⌝ }
+    requires { ⌜ SomeRoundReady (now b) (now work) plan root round × (length (now b) ≤ 32768) ⌝ }
+    ensures { λ r. ⌜ ((w : Program) → RoundReady (now (b .entry)) w (now (work .entry)) plan root round → RoundMade (now (b .entry)) w (now (work .entry)) (now (work .exit)) plan round r) ⌝ }
 {
     let mut f = 0;
     let mut changed = false;
@@ -162,9 +157,8 @@ fn clean_once(b: &[u8], work: &mut [u32], plan: Plan, root: usize, round: usize)
 
 // All rounds; how many. They end with the first that drops nothing, which is counted.
 pub fn clean_rounds(b: &[u8], work: &mut [u32], plan: Plan, root: usize) -> usize
-    requires { ⌜ SomeRoundsReady (now b) (now work) plan root × (length (now b) ≤ 32768) × Remembering (now b) plan (now work) ⌝ }
-    ensures made { λ r. ⌜ ((w : Program) → RoundsReady (now (b .entry)) w (now (work .entry)) plan root → RoundsMade w (now (work .entry)) (now (work .exit)) plan r) ⌝ }
-    ensures remembers { λ _. ⌜ Remembering (now (b .entry)) plan (now (work .exit)) ⌝ }
+    requires { ⌜ SomeRoundsReady (now b) (now work) plan root × (length (now b) ≤ 32768) ⌝ }
+    ensures { λ r. ⌜ ((w : Program) → RoundsReady (now (b .entry)) w (now (work .entry)) plan root → RoundsMade w (now (work .entry)) (now (work .exit)) plan r) ⌝ }
 {
     let mut round = 1;
     while clean_once(b, work, plan, root, round) {

@@ -30,7 +30,7 @@ ghost use Rattle.index.specs.Links.{listHead};
 ghost use Rattle.told.specs.Asked.{meets, isJudged};
 ghost use Rattle.told.specs.History.{isThere};
 ghost use Rattle.cleaning.specs.Indexed.{Indexed, SomeBody, fellOf};
-ghost use Rattle.cleaning.specs.Room.{Remembering, Used};
+ghost use Rattle.cleaning.specs.Room.{Used};
 ghost use Rattle.cleaning.specs.Walks.{Walkable, SomeWalk, isThereListed, OnList, NoneMet, MetAt, SomeAsked, SomeMeeting, Owns, WitnessOf, SomeOwned, witnessFrom, StillMet, OneColumn};
 
 // The round in which the sentence s fell, 0 if it never did.
@@ -95,9 +95,9 @@ pub fn is_judged(work: &[u32], plan: Plan, f: usize, round: usize) -> bool
 // Whether the site i meets the pattern that stands at `pattern` of the body b: it is there and the two are not Disjoint. A
 // repeat of an earlier site that is there need not be asked, as the verdict is the same.
 fn is_met(b: &[u8], work: &mut [u32], plan: Plan, pattern: usize, i: usize, round: usize) -> bool
-    requires { ⌜ SomeAsked (now b) (now work) plan pattern i × (length (now b) ≤ 32768) × Remembering (now b) plan (now work) ⌝ }
+    requires { ⌜ SomeAsked (now b) (now work) plan pattern i × (length (now b) ≤ 32768) ⌝ }
     ensures met { λ r. ⌜ ((w : Program) (f : ℕ) (x : Function) (y : Held) → Indexed (now (b .entry)) w (now (work .entry)) plan → getElem? (w .functions) f ≡ some x → getElem? (sitesOf w) i ≡ some y → isListed true (x .name) y ≡ true → (t : TermsAt Mode.pattern (drop pattern (now (b .entry)))) → MetAt (isThere (fellOf plan (now (work .entry))) round) (x .name) (t .terms) (sitesOf w) i y r) ⌝ }
-    ensures keeps { λ _. ⌜ Used (now (b .entry)) plan (now (work .entry)) (now (work .exit)) ⌝ }
+    ensures keeps { λ _. ⌜ Used plan (now (work .entry)) (now (work .exit)) ⌝ }
 {
     if !site_there(work, plan, i, round) {
         return false;
@@ -120,9 +120,9 @@ fn meeting_from(
     i: usize,
     round: usize,
 ) -> usize
-    requires { ⌜ SomeMeeting (now b) (now work) plan pattern i × (length (now b) ≤ 32768) × Remembering (now b) plan (now work) ⌝ }
+    requires { ⌜ SomeMeeting (now b) (now work) plan pattern i × (length (now b) ≤ 32768) ⌝ }
     ensures met { λ r. ⌜ ((w : Program) (f : ℕ) (x : Function) → Indexed (now (b .entry)) w (now (work .entry)) plan → getElem? (w .functions) f ≡ some x → OnList (x .name) (sitesOf w) i → (t : TermsAt Mode.pattern (drop pattern (now (b .entry)))) → NoneMet (isThere (fellOf plan (now (work .entry))) round) (x .name) (t .terms) (sitesOf w) i → First (meets (isThere (fellOf plan (now (work .entry))) round) (x .name) (t .terms)) 0 (sitesOf w) r) ⌝ }
-    ensures keeps { λ _. ⌜ Used (now (b .entry)) plan (now (work .entry)) (now (work .exit)) ⌝ }
+    ensures keeps { λ _. ⌜ Used plan (now (work .entry)) (now (work .exit)) ⌝ }
 {
     let links = links_of(plan);
     let mut j = i;
@@ -151,10 +151,9 @@ pub fn witness_of(work: &[u32], plan: Plan, f: usize, s: usize) -> usize
 // Whether the sentence s of the f-th function meets a site when the round begins. Its witness only moves on, as sites
 // only go: so no verdict is asked twice.
 pub fn still_met(b: &[u8], work: &mut [u32], plan: Plan, f: usize, s: usize, round: usize) -> bool
-    requires { ⌜ SomeOwned (now b) (now work) plan (isThere (fellOf plan (now work)) round) f s × (length (now b) ≤ 32768) × Remembering (now b) plan (now work) ⌝ }
+    requires { ⌜ SomeOwned (now b) (now work) plan (isThere (fellOf plan (now work)) round) f s × (length (now b) ≤ 32768) ⌝ }
     ensures met { λ r. ⌜ ((w : Program) (x : Function) (y : Sentence) → Indexed (now (b .entry)) w (now (work .entry)) plan → Owns w f x s y → WitnessOf (isThere (fellOf plan (now (work .entry))) round) (x .name) (y .pattern) (sitesOf w) (getD (now (work .entry)) (witnesses plan + s) 0) → StillMet (isThere (fellOf plan (now (work .entry))) round) (x .name) (y .pattern) (sitesOf w) (getD (now (work .exit)) (witnesses plan + s) 0) r) ⌝ }
     ensures others { λ r. ⌜ OneColumn plan (now (work .entry)) (now (work .exit)) (witnesses plan + s) ⌝ }
-    ensures remembers { λ _. ⌜ Remembering (now (b .entry)) plan (now (work .exit)) ⌝ }
 {
     let k = witnesses_of(plan) + s;
     let i = witness_of(work, plan, f, s);

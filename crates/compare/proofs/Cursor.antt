@@ -13,7 +13,7 @@ use Rattle.image.specs.Parts.{Passes, TermsAt}
 use Rattle.program.proofs.Lengths.{terms-length}
 use Rattle.patterns.specs.Names.{eqBytes}
 use Rattle.symbols.proofs.Parts.{part-rest}
-use Rattle.overlap.proofs.Readings.{part, part-length, part-part}
+use Rattle.rows.proofs.Readings.{part, part-length, part-part}
 use Rattle.meaning.specs.Text.{Text, formatTerms}
 use Rattle.compare.specs.Letters.{tokenLength, letters, TokenIn}
 use Rattle.compare.proofs.Letters.{letters-short, token-long}

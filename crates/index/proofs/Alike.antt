@@ -13,7 +13,7 @@ use Rattle.program.specs.Encode.{putTerms}
 use Rattle.program.specs.Limits.{Mode, ValidTerms}
 use Rattle.image.specs.Parts.{TermsAt}
 use Rattle.symbols.proofs.Parts.{part-rest}
-use Rattle.overlap.proofs.Readings.{part}
+use Rattle.rows.proofs.Readings.{part}
 use Rattle.patterns.specs.Configuration.{sameConfiguration}
 use Rattle.told.specs.Numbered.{Held}
 use Rattle.restrictions.specs.Entries.{CallAt, entryOffset}

@@ -7,7 +7,7 @@ use lib.ListN.{length, drop, length-drop}
 use lib.Seq.{drop-drop}
 use Rattle.image.specs.Parts.{Passes}
 use Rattle.symbols.proofs.Parts.{part-rest}
-use Rattle.overlap.proofs.Readings.{part, part-length}
+use Rattle.rows.proofs.Readings.{part, part-length}
 use Rattle.restrictions.specs.Entries.{CallAt}
 use Rattle.restrictions.proofs.Calls.{call-room}
 

@@ -9,7 +9,7 @@ use Rattle.program.specs.Bytes.{put32, putSpan, putName}
 use Rattle.program.specs.Encode.{putSentences, putFunction}
 use Rattle.image.specs.Parts.{NameAt, FunctionAt}
 use Rattle.symbols.proofs.Parts.{part-rest}
-use Rattle.overlap.proofs.Readings.{part}
+use Rattle.rows.proofs.Readings.{part}
 
 module _ (b : List ℕ) (p : ℕ) (x : FunctionAt (drop p b)) where
   pub function-room : p + 10 < length b

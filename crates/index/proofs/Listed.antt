@@ -11,7 +11,7 @@ use Rattle.program.specs.Syntax.{Function}
 use Rattle.program.specs.Encode.{putSentences, putFunctions}
 use Rattle.image.specs.Parts.{Passes, FunctionAt, FunctionsAt}
 use Rattle.program.specs.Sentences.{Sentence, ownSentences}
-use Rattle.overlap.proofs.Readings.{part, part-length}
+use Rattle.rows.proofs.Readings.{part, part-length}
 use Rattle.restrictions.proofs.Going.{from-part}
 use Rattle.restrictions.proofs.Bytes.{functions-bytes}
 use Rattle.program.proofs.Own.{own-counted}

@@ -8,7 +8,7 @@ use Rattle.program.specs.Encode.{putTerms}
 use Rattle.program.specs.Limits.{Mode}
 use Rattle.image.specs.Parts.{Passes, TermsAt}
 use Rattle.symbols.proofs.Parts.{part-rest}
-use Rattle.overlap.proofs.Readings.{part}
+use Rattle.rows.proofs.Readings.{part}
 use Rattle.restrictions.specs.Entries.{CallAt}
 use Rattle.restrictions.proofs.Calls.{call-room}
 use Rattle.index.specs.Linking.{SomeSites}

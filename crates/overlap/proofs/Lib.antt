@@ -1,7 +1,2 @@
-pub mod Costs
-pub mod Readings
-pub mod Heads
 pub mod Turns
-pub mod Memory
-pub mod Values
-pub mod Plugging
+pub mod Tries

@@ -14,12 +14,9 @@ use Rattle.patterns.specs.declared.Verdict.the-variants.{Disjoint, Overlap, Unk
 use Rattle.patterns.specs.declared.Found.{Found}
 use Rattle.patterns.specs.Search.{found, View, view, leftoverOverlap, ends, afterSplit, splitsFrom, absorbingSplit, overlapOfTerms, afterUnknown, afterHeads, sequence}
 use Rattle.overlap.specs.Steps.{isOverlap, isDisjoint, remembered, behind}
-use Rattle.overlap.specs.declared.search.Opening.{Opening}
-use Rattle.overlap.specs.Parts.{placeOf, PatternIn}
-use Rattle.overlap.specs.Stack.{Opened, Opens}
 use Rattle.patterns.proofs.Unfold.{no-fuel, absorbing-begins, one-begins, leftover-view, empty-first, empty-second, first-absorbs, second-absorbs, heads-compared}
 use Rattle.patterns.proofs.Verdicts.{disjoint≢unknown}
-use Rattle.overlap.proofs.Readings.{part, part-length, is-empty, is-not-empty, is-absorbing, one-head, next-at, term-long, moved, in-body, next-in}
+use Rattle.rows.proofs.Readings.{part, is-empty, is-not-empty, is-absorbing, one-head, rest-at, next-at}
 
 -- The terms from i on can stand for nothing exactly if all of them can.
 pub record Leaving (s : List ℕ) (i : ℕ) (p : TermsAt Mode.pattern s) : Type 0 where
@@ -70,42 +67,22 @@ behind-unknown Disjoint f n = absurd (n refl)
 behind-unknown Overlap f n = refl
 behind-unknown Unknown f n = refl
 
--- The split at the first term of the tail x, against y, has its places in the body.
-opens : (b : List ℕ) (fuel bytes : ℕ) (p q : Terms) (x y : List ℕ) (heads : Verdict) (left : ℕ) (u : PatternIn b x) (v : PatternIn b y) → (getD x 0 0 ≡ 15 → ⊥) → (heads ≡ Disjoint → ⊥)
-    → left < fuel → length x + length y ≤ bytes → (z : Opening) → Opened b x y left heads (putTerms (tail (u .pattern .terms)) (u .pattern .rest)) z
-    → sequence fuel p q ≡ behind heads (absorbingSplit sequence left (tail (u .pattern .terms)) (v .pattern .terms)) → Opens b fuel bytes p q z
-opens b fuel bytes p q x y heads left u v m g l o z h e =
-    let n = h .size in
-    let k = next-in u n (h .passes) in
-    let i : placeOf b x + n ≡ placeOf b (part x n) = omega (arith, part-length x n, u .tail .fits, h .passes .fits) in
-    subst (λ (w : Opening). Opens b fuel bytes p q w) (sym (h .is)) (record {
-      rest = moved b (placeOf b x + n) (placeOf b (part x n)) i (in-body (k .tail) (k .pattern));
-      other = in-body (v .tail) (v .pattern);
-      going = g;
-      less = l;
-      further = omega (arith, o, term-long (u .pattern) m n (h .passes), h .passes .fits, u .tail .fits, v .tail .fits);
-      whole = e;
-    })
-
 -- The heads so far have been passed; the two sequences that x and y start with answer, behind them, as the whole.
-pub record Reached (b : List ℕ) (fuel : ℕ) (x y : List ℕ) (left : ℕ) (heads : Verdict) (p q : Terms) : Type 0 where
-  pub first : PatternIn b x
-  pub second : PatternIn b y
+pub record Reached (fuel : ℕ) (x y : List ℕ) (left : ℕ) (heads : Verdict) (p q : Terms) : Type 0 where
+  pub first : TermsAt Mode.pattern x
+  pub second : TermsAt Mode.pattern y
   pub going : heads ≡ Disjoint → ⊥
-  pub whole : sequence fuel p q ≡ behind heads (sequence left (first .pattern .terms) (second .pattern .terms))
-
-six-open : {m : ℕ} → m ≡ 6 → m ≡ 15 → ⊥
-six-open e h = omega arith
+  pub whole : sequence fuel p q ≡ behind heads (sequence left (first .terms) (second .terms))
 
 less-one : (f : ℕ) → 0 < f → f ≡ suc (f - 1)
 less-one f h = omega arith
 
-module _ {b : List ℕ} {fuel : ℕ} {x y : List ℕ} {left : ℕ} {heads : Verdict} {p q : Terms} (r : Reached b fuel x y left heads p q) where
+module _ {fuel : ℕ} {x y : List ℕ} {left : ℕ} {heads : Verdict} {p q : Terms} (r : Reached fuel x y left heads p q) where
   abbrev a : Terms
-  a = r .first .pattern .terms
+  a = r .first .terms
 
   abbrev c : Terms
-  c = r .second .pattern .terms
+  c = r .second .terms
 
   pub reached-out : left ≤ 0 → sequence fuel p q ≡ found Unknown 0
   reached-out l =
@@ -117,53 +94,45 @@ module _ {b : List ℕ} {fuel : ℕ} {x y : List ℕ} {left : ℕ} {heads : Verd
     turn w e = r .whole ∙ ap (λ (f : ℕ). behind heads (sequence f a c)) (less-one left l) ∙ ap (behind heads) e
 
     pub first-closed : getD x 0 0 ≡ 15 → sequence fuel p q ≡ behind heads (found (leftoverOverlap c) (left - 1))
-    first-closed m = turn _ (empty-first (left - 1) a c (is-empty (r .first .pattern) m))
+    first-closed m = turn _ (empty-first (left - 1) a c (is-empty (r .first) m))
 
     pub second-closed : getD y 0 0 ≡ 15 → sequence fuel p q ≡ behind heads (found (leftoverOverlap a) (left - 1))
-    second-closed m = turn _ (empty-second (left - 1) a c (is-empty (r .second .pattern) m))
+    second-closed m = turn _ (empty-second (left - 1) a c (is-empty (r .second) m))
 
-    first-split : getD x 0 0 ≡ 6 → (getD y 0 0 ≡ 15 → ⊥) → sequence fuel p q ≡ behind heads (absorbingSplit sequence (left - 1) (tail a) c)
-    first-split m n = turn _ (first-absorbs (left - 1) a c (tail a) (is-absorbing (r .first .pattern) m) (is-not-empty (r .second .pattern) n))
+    pub first-split : getD x 0 0 ≡ 6 → (getD y 0 0 ≡ 15 → ⊥) → sequence fuel p q ≡ behind heads (absorbingSplit sequence (left - 1) (tail a) c)
+    first-split m n = turn _ (first-absorbs (left - 1) a c (tail a) (is-absorbing (r .first) m) (is-not-empty (r .second) n))
 
-    second-split : (getD x 0 0 ≡ 15 → ⊥) → (getD x 0 0 ≡ 6 → ⊥) → getD y 0 0 ≡ 6 → sequence fuel p q ≡ behind heads (absorbingSplit sequence (left - 1) (tail c) a)
+    pub second-split : (getD x 0 0 ≡ 15 → ⊥) → (getD x 0 0 ≡ 6 → ⊥) → getD y 0 0 ≡ 6 → sequence fuel p q ≡ behind heads (absorbingSplit sequence (left - 1) (tail c) a)
     second-split m n k =
-        let h = one-head (r .first .pattern) m n in
-        turn _ (second-absorbs (left - 1) a c (tail a) (tail c) (h .0) (h .1) (is-absorbing (r .second .pattern) k))
+        let h = one-head (r .first) m n in
+        turn _ (second-absorbs (left - 1) a c (tail a) (tail c) (h .0) (h .1) (is-absorbing (r .second) k))
 
     -- Two heads, neither an `e.` variable nor a close, with the verdict v.
     module _ (m : getD x 0 0 ≡ 15 → ⊥) (n : getD x 0 0 ≡ 6 → ⊥) (m′ : getD y 0 0 ≡ 15 → ⊥) (n′ : getD y 0 0 ≡ 6 → ⊥)
-        (v : Verdict) (e : v ≡ overlapOfTerms sequence (one-head (r .first .pattern) m n .0) (one-head (r .second .pattern) m′ n′ .0)) where
+        (v : Verdict) (e : v ≡ overlapOfTerms sequence (one-head (r .first) m n .0) (one-head (r .second) m′ n′ .0)) where
       compared : sequence fuel p q ≡ behind heads (afterHeads v (left - 1) (λ g. sequence g (tail a) (tail c)))
       compared =
-          let h = one-head (r .first .pattern) m n in
-          let k = one-head (r .second .pattern) m′ n′ in
+          let h = one-head (r .first) m n in
+          let k = one-head (r .second) m′ n′ in
           turn _ (heads-compared (left - 1) a c (tail a) (tail c) (h .0) (k .0) (h .1) (k .1)
           ∙ ap (λ (w : Verdict). afterHeads w (left - 1) (λ g. sequence g (tail a) (tail c))) (sym e))
 
       pub heads-apart : isDisjoint v ≡ true → sequence fuel p q ≡ found Disjoint (left - 1)
       heads-apart h = compared ∙ behind-apart heads v (left - 1) _ (r .going) h
 
-      pub heads-passed : isDisjoint v ≡ false → (i : ℕ) → Passes x i (putTerms (tail a) (r .first .pattern .rest)) → (j : ℕ) → Passes y j (putTerms (tail c) (r .second .pattern .rest))
-          → Reached b fuel (part x i) (part y j) (left - 1) (remembered heads v) p q
+      pub heads-passed : isDisjoint v ≡ false → (i : ℕ) → Passes x i (putTerms (tail a) (r .first .rest)) → (j : ℕ) → Passes y j (putTerms (tail c) (r .second .rest))
+          → Reached fuel (part x i) (part y j) (left - 1) (remembered heads v) p q
       heads-passed h i d j k = record {
-        first = next-in (r .first) i d;
-        second = next-in (r .second) j k;
+        first = rest-at (r .first) i d;
+        second = rest-at (r .second) j k;
         going = still-going heads v (r .going);
         whole = compared ∙ behind-both heads v (left - 1) _ (r .going) h;
       }
 
-    -- One of the two is at an `e.` variable.
-    module _ {bytes : ℕ} (o : length x + length y ≤ bytes) (less : left ≤ fuel) (z : Opening) where
-      pub first-opens : getD x 0 0 ≡ 6 → (getD y 0 0 ≡ 15 → ⊥) → Opened b x y (left - 1) heads (putTerms (tail a) (r .first .pattern .rest)) z → Opens b fuel bytes p q z
-      first-opens m n h = opens b fuel bytes p q x y heads (left - 1) (r .first) (r .second) (λ e. six-open m e) (r .going) (omega arith) o z h (first-split m n)
-
-      pub second-opens : (getD x 0 0 ≡ 15 → ⊥) → (getD x 0 0 ≡ 6 → ⊥) → getD y 0 0 ≡ 6 → Opened b y x (left - 1) heads (putTerms (tail c) (r .second .pattern .rest)) z → Opens b fuel bytes p q z
-      second-opens m n k h = opens b fuel bytes p q y x heads (left - 1) (r .second) (r .first) (λ e. six-open k e) (r .going) (omega arith) (omega arith) z h (second-split m n k)
-
 -- The splits so far have been tried; those from the tail x on, with the verdict so far, answer as all.
-pub record Splitting (b : List ℕ) (fuel : ℕ) (x : List ℕ) (left : ℕ) (verdict : Verdict) (p q : Terms) : Type 0 where
-  pub there : PatternIn b x
-  pub whole : absorbingSplit sequence fuel p q ≡ splitsFrom sequence p (ends (there .pattern .terms)) verdict left
+pub record Splitting (fuel : ℕ) (x : List ℕ) (left : ℕ) (verdict : Verdict) (p q : Terms) : Type 0 where
+  pub there : TermsAt Mode.pattern x
+  pub whole : absorbingSplit sequence fuel p q ≡ splitsFrom sequence p (ends (there .terms)) verdict left
 
 split-overlap : (f : ℕ) (r o : Terms) (os : List Terms) (v : Verdict) (q : Found) → q ≡ sequence f r o → isOverlap (q .verdict) ≡ true → splitsFrom sequence r (o ∷ os) v f ≡ q
 unfolding splitsFrom
@@ -186,7 +155,7 @@ split-on f r o os v q e h =
     go Overlap h = absurd (true≢false h)
     go Unknown h = refl
 
-pub splitting-first : {b x : List ℕ} (fuel : ℕ) (p : Terms) (there : PatternIn b x) → Splitting b fuel x fuel Disjoint p (there .pattern .terms)
+pub splitting-first : {x : List ℕ} (fuel : ℕ) (p : Terms) (there : TermsAt Mode.pattern x) → Splitting fuel x fuel Disjoint p (there .terms)
 unfolding absorbingSplit
 splitting-first fuel p there = record { there = there; whole = refl }
 
@@ -220,10 +189,10 @@ ends-more (call s f a r) h = refl
 ends-more (block s a b r) h = refl
 
 -- z is the answer on the split at x.
-module _ {b : List ℕ} {fuel : ℕ} {x : List ℕ} {left : ℕ} {verdict : Verdict} {p q : Terms} (r : Splitting b fuel x left verdict p q)
-    (z : Found) (e : z ≡ sequence left p (r .there .pattern .terms)) where
+module _ {fuel : ℕ} {x : List ℕ} {left : ℕ} {verdict : Verdict} {p q : Terms} (r : Splitting fuel x left verdict p q)
+    (z : Found) (e : z ≡ sequence left p (r .there .terms)) where
   abbrev o : Terms
-  o = r .there .pattern .terms
+  o = r .there .terms
 
   from : (os : List Terms) → ends o ≡ o ∷ os → absorbingSplit sequence fuel p q ≡ splitsFrom sequence p (o ∷ os) verdict left
   from os h = r .whole ∙ ap (λ (l : List Terms). splitsFrom sequence p l verdict left) h
@@ -236,7 +205,7 @@ module _ {b : List ℕ} {fuel : ℕ} {x : List ℕ} {left : ℕ} {verdict : Verd
   module _ (h : isOverlap (z .verdict) ≡ false) where
     pub split-ends : getD x 0 0 ≡ 15 → absorbingSplit sequence fuel p q ≡ found (remembered verdict (z .verdict)) (z .fuel)
     unfolding splitsFrom
-    split-ends m = from [] (ends-last o (is-empty (r .there .pattern) m)) ∙ split-on left p o [] verdict z e h
+    split-ends m = from [] (ends-last o (is-empty (r .there) m)) ∙ split-on left p o [] verdict z e h
 
-    pub split-goes-on : (getD x 0 0 ≡ 15 → ⊥) → (n : ℕ) → Passes x n (putTerms (tail o) (r .there .pattern .rest)) → Splitting b fuel (part x n) (z .fuel) (remembered verdict (z .verdict)) p q
-    split-goes-on m n k = record { there = next-in (r .there) n k; whole = from (ends (tail o)) (ends-more o (is-not-empty (r .there .pattern) m)) ∙ split-on left p o (ends (tail o)) verdict z e h }
+    pub split-goes-on : (getD x 0 0 ≡ 15 → ⊥) → (n : ℕ) → Passes x n (putTerms (tail o) (r .there .rest)) → Splitting fuel (part x n) (z .fuel) (remembered verdict (z .verdict)) p q
+    split-goes-on m n k = record { there = rest-at (r .there) n k; whole = from (ends (tail o)) (ends-more o (is-not-empty (r .there) m)) ∙ split-on left p o (ends (tail o)) verdict z e h }

@@ -1,33 +1,27 @@
 // The overlap search on two patterns, which stand at places of one body.
 mod search;
-mod slots;
-mod stack;
 mod terms;
 
 use patterns::Found;
 use patterns::Verdict;
+use rows::pair_cell;
 ghost use mathlib.Core.Path.{_≡_};
-ghost use Prim.Native.Nat.{_≤_};
+ghost use Prim.Native.Nat.{_/_, _%_, _≤_};
 ghost use lib.ListN.{length, drop};
 ghost use Rattle.program.specs.Limits.{Mode};
 ghost use Rattle.image.specs.Parts.{TermsAt};
-ghost use Rattle.patterns.specs.Search.{found, literalOverlap, start, sequence, patternsOverlap};
-ghost use Rattle.overlap.specs.Memory.{Remembers, Searched};
-ghost use Rattle.overlap.specs.Steps.{isOverlap, isDisjoint, remembered, behind, behindVerdict, endedBy};
-
-// How the entries lent to a search are divided: so many for open splits, so many for how the first of them began, then three
-// tables of so many slots.
-pub struct Room {
-    pub frames: usize,
-    pub begun: usize,
-    pub slots: usize,
-}
+ghost use Rattle.patterns.specs.declared.Verdict.{Verdict};
+ghost use Rattle.patterns.specs.Search.{literalOverlap, start, sequence, patternsOverlap};
+ghost use Rattle.rows.specs.Cells.{codeOf, costing};
+ghost use Rattle.overlap.specs.Steps.{isOverlap, isDisjoint, remembered, behindVerdict};
 
 // The fuel of each pair of sequences.
 const OVERLAP_FUEL: u32 = 4096;
 
-// How many splits may be open as calls, before the stack in the room serves.
-const NATIVE_DEPTH: u32 = 4;
+// What the cycle may use before the rows take over: so many entries in all, so many brackets and splits inside one another.
+const ENTRIES: u32 = 512;
+
+const DEPTH: u32 = 12;
 
 pub fn is_overlap(v: Verdict) -> bool
     ensures { λ r. ⌜ r ≡ isOverlap v ⌝ }
@@ -60,29 +54,17 @@ fn remember(earlier: Verdict, v: Verdict) -> Verdict
     }
 }
 
-// The answer on the tails, behind heads with a verdict.
-fn behind_heads(heads: Verdict, v: Verdict, fuel: u32) -> Found
-    ensures { λ r. ⌜ r ≡ behind heads (found v fuel) ⌝ }
+// The verdict on the tails, behind heads with a verdict.
+fn behind_verdict(heads: Verdict, v: Verdict) -> Verdict
+    ensures { λ r. ⌜ r ≡ behindVerdict heads v ⌝ }
 {
     match heads {
-        Verdict::Disjoint => Found {
-            verdict: Verdict::Disjoint,
-            fuel,
-        },
-        Verdict::Overlap => Found { verdict: v, fuel },
+        Verdict::Disjoint => Verdict::Disjoint,
+        Verdict::Overlap => v,
         Verdict::Unknown => match v {
-            Verdict::Disjoint => Found {
-                verdict: Verdict::Disjoint,
-                fuel,
-            },
-            Verdict::Overlap => Found {
-                verdict: Verdict::Unknown,
-                fuel,
-            },
-            Verdict::Unknown => Found {
-                verdict: Verdict::Unknown,
-                fuel,
-            },
+            Verdict::Disjoint => Verdict::Disjoint,
+            Verdict::Overlap => Verdict::Unknown,
+            Verdict::Unknown => Verdict::Unknown,
         },
     }
 }
@@ -97,58 +79,81 @@ fn literal_overlap(equal: bool) -> Verdict
     }
 }
 
-// The verdict on the tails, behind heads with a verdict.
-fn behind_verdict(heads: Verdict, v: Verdict) -> Verdict
-    ensures { λ r. ⌜ r ≡ behindVerdict heads v ⌝ }
+// The verdict of its number.
+fn verdict_of(n: u32) -> Verdict
+    ensures { λ r. ⌜ ((v : Verdict) → n ≡ codeOf v → r ≡ v) ⌝ }
 {
-    let q = behind_heads(heads, v, 0);
-    q.verdict
+    if n == 1 {
+        return Verdict::Disjoint;
+    }
+    if n == 2 {
+        return Verdict::Overlap;
+    }
+    Verdict::Unknown
 }
 
-// The verdict of all ends of a split, so far and then the last, or one that meets.
-fn ended_by(earlier: Verdict, v: Verdict) -> Verdict
-    ensures { λ r. ⌜ r ≡ endedBy earlier v ⌝ }
+// What a cell says of a search that is entered with this fuel.
+fn told(cell: u32, fuel: u32) -> Found
+    ensures { λ r. ⌜ ((v : Verdict) → cell % 4 ≡ codeOf v → r ≡ costing (cell / 4) v fuel) ⌝ }
 {
-    match v {
-        Verdict::Disjoint => earlier,
-        Verdict::Overlap => Verdict::Overlap,
-        Verdict::Unknown => Verdict::Unknown,
+    let cost = cell / 4;
+    if fuel < cost {
+        return Found {
+            verdict: Verdict::Unknown,
+            fuel: 0,
+        };
+    }
+    let verdict = verdict_of(cell % 4);
+    Found {
+        verdict,
+        fuel: fuel - cost,
     }
 }
 
-// The search on the patterns that stand at p and q of a body, with entries in which it may remember.
-pub fn patterns_overlap(b: &[u8], p: usize, q: usize, room: &mut [u32], lent: Room) -> Found
-    requires { ⌜ TermsAt Mode.pattern (drop p (now b)) × TermsAt Mode.pattern (drop q (now b)) × (length (now b) ≤ 32768) × Remembers (now b) (now room) lent ⌝ }
-    ensures answers { λ r. ⌜ ((x : TermsAt Mode.pattern (drop p (now (b .entry)))) (y : TermsAt Mode.pattern (drop q (now (b .entry)))) → r ≡ sequence start (x .terms) (y .terms)) ⌝ }
-    ensures keeps { λ _. ⌜ Searched (now (b .entry)) lent 0 (now (room .entry)) (now (room .exit)) ⌝ }
-{
-    search::sequence(
-        b,
-        &b[p..],
-        &b[q..],
-        OVERLAP_FUEL,
-        NATIVE_DEPTH,
-        0,
-        room,
-        lent,
-    )
-}
-
-// The verdict alone, which is remembered as that of a bracket pair is. It is not `pair_overlap` that is called: with one caller,
-// that is compiled into the one function of the cycle.
-pub fn patterns_verdict(b: &[u8], p: usize, q: usize, room: &mut [u32], lent: Room) -> Verdict
-    requires { ⌜ TermsAt Mode.pattern (drop p (now b)) × TermsAt Mode.pattern (drop q (now b)) × (length (now b) ≤ 32768) × Remembers (now b) (now room) lent ⌝ }
-    ensures answers { λ r. ⌜ ((x : TermsAt Mode.pattern (drop p (now (b .entry)))) (y : TermsAt Mode.pattern (drop q (now (b .entry)))) → r ≡ patternsOverlap (x .terms) (y .terms)) ⌝ }
-    ensures keeps { λ _. ⌜ Searched (now (b .entry)) lent 0 (now (room .entry)) (now (room .exit)) ⌝ }
+// The search on the patterns that stand at p and q of a body: by the cycle if little is enough, else by rows in the room, and
+// where that is too short by the cycle again, as long as it takes.
+pub fn sequence_overlap(b: &[u8], p: usize, q: usize, fuel: u32, room: &mut [u32]) -> Found
+    requires { ⌜ TermsAt Mode.pattern (drop p (now b)) × TermsAt Mode.pattern (drop q (now b)) × (length (now b) ≤ 32768) × (fuel ≤ 4096) ⌝ }
+    ensures answers { λ r. ⌜ ((x : TermsAt Mode.pattern (drop p (now (b .entry)))) (y : TermsAt Mode.pattern (drop q (now (b .entry)))) → r ≡ sequence fuel (x .terms) (y .terms)) ⌝ }
+    ensures keeps { λ _. ⌜ length (now (room .exit)) ≡ length (now (room .entry)) ⌝ }
 {
     let left = &b[p..];
     let right = &b[q..];
-    let known = search::recall_pair(b, left, right, room, lent);
-    if known != 0 {
-        return slots::verdict_of(known);
+    let tried = search::sequence(left, right, fuel, ENTRIES, DEPTH, false);
+    if tried.done {
+        let verdict = tried.verdict;
+        return Found {
+            verdict,
+            fuel: tried.fuel,
+        };
     }
-    let found = search::sequence(b, left, right, OVERLAP_FUEL, NATIVE_DEPTH, 0, room, lent);
-    let verdict = found.verdict;
-    search::note_pair(b, left, right, verdict, room, lent);
-    verdict
+    let cell = pair_cell(b, left, right, 0, room);
+    if cell != 0 {
+        return told(cell, fuel);
+    }
+    let whole = search::sequence(left, right, fuel, 0, 0, true);
+    let verdict = whole.verdict;
+    Found {
+        verdict,
+        fuel: whole.fuel,
+    }
+}
+
+// The same from the fuel of each pair of sequences.
+pub fn patterns_overlap(b: &[u8], p: usize, q: usize, room: &mut [u32]) -> Found
+    requires { ⌜ TermsAt Mode.pattern (drop p (now b)) × TermsAt Mode.pattern (drop q (now b)) × (length (now b) ≤ 32768) ⌝ }
+    ensures answers { λ r. ⌜ ((x : TermsAt Mode.pattern (drop p (now (b .entry)))) (y : TermsAt Mode.pattern (drop q (now (b .entry)))) → r ≡ sequence start (x .terms) (y .terms)) ⌝ }
+    ensures keeps { λ _. ⌜ length (now (room .exit)) ≡ length (now (room .entry)) ⌝ }
+{
+    sequence_overlap(b, p, q, OVERLAP_FUEL, room)
+}
+
+// Its verdict alone.
+pub fn patterns_verdict(b: &[u8], p: usize, q: usize, room: &mut [u32]) -> Verdict
+    requires { ⌜ TermsAt Mode.pattern (drop p (now b)) × TermsAt Mode.pattern (drop q (now b)) × (length (now b) ≤ 32768) ⌝ }
+    ensures answers { λ r. ⌜ ((x : TermsAt Mode.pattern (drop p (now (b .entry)))) (y : TermsAt Mode.pattern (drop q (now (b .entry)))) → r ≡ patternsOverlap (x .terms) (y .terms)) ⌝ }
+    ensures keeps { λ _. ⌜ length (now (room .exit)) ≡ length (now (room .entry)) ⌝ }
+{
+    let found = patterns_overlap(b, p, q, room);
+    found.verdict
 }

@@ -12,7 +12,7 @@ use Rattle.image.specs.Parts.{TermsAt, FunctionAt}
 use Rattle.program.specs.Sentences.{Sentence, ownSentences}
 use Rattle.program.proofs.Lengths.{name-length}
 use Rattle.symbols.proofs.Parts.{part-rest}
-use Rattle.overlap.proofs.Readings.{part}
+use Rattle.rows.proofs.Readings.{part}
 use Rattle.index.specs.declared.Plan.{Plan}
 use Rattle.index.specs.Layout.{lines}
 use Rattle.index.proofs.First.{Element, element-at, element-below}

@@ -11,7 +11,7 @@ use Rattle.index.specs.Layout.{witnesses, links}
 use Rattle.index.specs.Links.{entryNext}
 use Rattle.told.specs.History.{isThere, afterAll, Told}
 use Rattle.cleaning.specs.Indexed.{fellOf}
-use Rattle.cleaning.specs.Room.{Remembering, Used}
+use Rattle.cleaning.specs.Room.{Used}
 use Rattle.cleaning.specs.Walks.{Witnessed}
 use Rattle.told.specs.ToldReport.{toldReport}
 use Rattle.cleaning.proofs.Room.{used-fell, used-indexed}
@@ -23,10 +23,10 @@ use Rattle.report.specs.Removed.{Removing}
 use Rattle.report.specs.Figures.{FiguresOf, Reporting}
 
 -- The columns before were those after.
-pub used-back : {b : List ℕ} {p : Plan} {old new : List ℕ} → Remembering b p old → Used b p old new → Used b p new old
-used-back r u = record { length = sym (u .length); columns = λ k h. sym (u .columns k h); remembers = r }
+pub used-back : {p : Plan} {old new : List ℕ} → Used p old new → Used p new old
+used-back u = record { length = sym (u .length); columns = λ k h. sym (u .columns k h) }
 
-module _ {b : List ℕ} {p : Plan} {old new : List ℕ} (u : Used b p old new) where
+module _ {p : Plan} {old new : List ℕ} (u : Used p old new) where
   pub used-keep : (r : ℕ) → isThere (fellOf p new) r ≡ isThere (fellOf p old) r
   used-keep r = ap (λ (f : ℕ → ℕ). isThere f r) (used-fell u)
 
@@ -34,17 +34,17 @@ module _ {b : List ℕ} {p : Plan} {old new : List ℕ} (u : Used b p old new) w
   pub used-next : (from i : ℕ) → from ≡ links p → i < p .sites → (v : ℕ) → v ≡ entryNext (getD new (from + i) 0) → v ≡ entryNext (getD old (links p + i) 0)
   used-next from i e h v z = z ∙ (ap (λ (k : ℕ). entryNext (getD new (k + i) 0)) e ∙ ap entryNext (u .columns (links p + i) (omega arith)))
 
-  pub used-readable : {w : Program} → Readable b w old p → Readable b w new p
-  used-readable {w} d = record {
+  pub used-readable : {b : List ℕ} {w : Program} → Readable b w old p → Readable b w new p
+  used-readable {b} {w} d = record {
     indexed = used-indexed u (d .indexed);
     short = d .short;
     witnessed = subst (λ (k : ℕ → Bool). Witnessed k w new p) (sym (used-keep afterAll)) (witnessed-kept (d .indexed .sentences) (λ s l. u .columns (witnesses p + s) (omega arith)) (d .witnessed));
   }
 
-  pub used-some : SomeReadable b old p → SomeReadable b new p
+  pub used-some : {b : List ℕ} → SomeReadable b old p → SomeReadable b new p
   used-some s = record { program = s .program; readable = used-readable (s .readable) }
 
-  pub used-site : {i : ℕ} → SomeSite b old p i → SomeSite b new p i
+  pub used-site : {b : List ℕ} {i : ℕ} → SomeSite b old p i → SomeSite b new p i
   used-site s = record {
     program = s .program;
     readable = used-readable (s .readable);
@@ -56,15 +56,15 @@ module _ {b : List ℕ} {p : Plan} {old new : List ℕ} (u : Used b p old new) w
     listed = s .listed;
   }
 
-  pub used-removing : {w : Program} {n : ℕ} → Removing b w old p n → Removing b w new p n
-  used-removing {w} {n} d = record {
+  pub used-removing : {b : List ℕ} {w : Program} {n : ℕ} → Removing b w old p n → Removing b w new p n
+  used-removing {b} {w} {n} d = record {
     readable = used-readable (d .readable);
     told = subst (λ (f : ℕ → ℕ). Told w f n) (sym (used-fell u)) (d .told);
     below = subst (λ (f : ℕ → ℕ). (s : ℕ) → f s < suc n) (sym (used-fell u)) (d .below);
   }
 
-  pub used-reporting : {w : Program} {n : ℕ} {g : Figures} → Reporting b w old p n g → Reporting b w new p n g
-  used-reporting {w} {n} {g} d = record {
+  pub used-reporting : {b : List ℕ} {w : Program} {n : ℕ} {g : Figures} → Reporting b w old p n g → Reporting b w new p n g
+  used-reporting {b} {w} {n} {g} d = record {
     removing = used-removing (d .removing);
     figures = subst (λ (f : ℕ → ℕ). FiguresOf (toldReport w f n) g) (sym (used-fell u)) (d .figures);
   }

@@ -18,7 +18,7 @@ ghost use Rattle.program.specs.Syntax.{Program};
 ghost use Rattle.program.specs.Encode.{ownSentenceCount};
 ghost use Rattle.meaning.specs.Root.{rootPlace};
 ghost use Rattle.cleaning.specs.Indexed.{fellOf};
-ghost use Rattle.cleaning.specs.Room.{Remembering, Used};
+ghost use Rattle.cleaning.specs.Room.{Used};
 ghost use Rattle.told.specs.ToldReport.{toldReport, unchangedReport};
 ghost use Rattle.text.specs.Fill.{Emitted};
 ghost use Rattle.meaning.specs.Report.{formatCleanReport};
@@ -63,10 +63,10 @@ pub fn count_lists(
     after: usize,
     none: &mut [u8],
 ) -> Figures
-    requires { ⌜ SomeRemoving (now b) (now work) plan rounds × (rounds < 4096) × (after < 8192) × Remembering (now b) plan (now work) ⌝ }
+    requires { ⌜ SomeRemoving (now b) (now work) plan rounds × (rounds < 4096) × (after < 8192) ⌝ }
     ensures counted { λ r. ⌜ ((w : Program) → Removing (now (b .entry)) w (now (work .entry)) plan rounds → after ≡ toldReport w (fellOf plan (now (work .entry))) rounds .sentencesAfter → root ≡ rootPlace w → FiguresOf (toldReport w (fellOf plan (now (work .entry))) rounds) r × (length (now (none .exit)) ≡ length (now (none .entry)))) ⌝ }
     ensures few { λ r. ⌜ Few r ⌝ }
-    ensures keeps { λ _. ⌜ Used (now (b .entry)) plan (now (work .entry)) (now (work .exit)) ⌝ }
+    ensures keeps { λ _. ⌜ Used plan (now (work .entry)) (now (work .exit)) ⌝ }
 {
     let names = put_uncharacterised(b, work, plan, root, none, 0);
     let removed = put_removed(b, work, plan, rounds, none, 0);
@@ -95,10 +95,10 @@ fn put_lists(
     out: &mut [u8],
     at: usize,
 ) -> usize
-    requires { ⌜ SomeReporting (now b) (now work) plan rounds figures × (rounds < 4096) × (at ≤ 1000) × Remembering (now b) plan (now work) ⌝ }
+    requires { ⌜ SomeReporting (now b) (now work) plan rounds figures × (rounds < 4096) × (at ≤ 1000) ⌝ }
     ensures written { λ r. ⌜ ((w : Program) → Reporting (now (b .entry)) w (now (work .entry)) plan rounds figures → Emitted (now (out .entry)) at (listsText (toldReport w (fellOf plan (now (work .entry))) rounds)) r (now (out .exit))) ⌝ }
     ensures short { λ r. ⌜ r ≤ 1000000000000000000 ⌝ }
-    ensures keeps { λ _. ⌜ Used (now (b .entry)) plan (now (work .entry)) (now (work .exit)) ⌝ }
+    ensures keeps { λ _. ⌜ Used plan (now (work .entry)) (now (work .exit)) ⌝ }
 {
     let removed = put_removed(b, work, plan, rounds, out, at);
     let second = put_count_line(out, removed.at, b"undecided: ", figures.undecided);
@@ -119,8 +119,8 @@ fn put_listed(
     out: &mut [u8],
     at: usize,
 ) -> usize
-    requires { ⌜ SomeReporting (now b) (now work) plan rounds figures × (rounds < 4096) × (at ≤ 1000) × Remembering (now b) plan (now work) ⌝ }
-    ensures { λ r. ⌜ ((p : Program) → Reporting (now (b .entry)) p (now (work .entry)) plan rounds figures → Emitted (now (out .entry)) at (listedText p root (fellOf plan (now (work .entry))) rounds) r (now (out .exit))) × (r ≤ 1000000001000000000) × Used (now (b .entry)) plan (now (work .entry)) (now (work .exit)) ⌝ }
+    requires { ⌜ SomeReporting (now b) (now work) plan rounds figures × (rounds < 4096) × (at ≤ 1000) ⌝ }
+    ensures { λ r. ⌜ ((p : Program) → Reporting (now (b .entry)) p (now (work .entry)) plan rounds figures → Emitted (now (out .entry)) at (listedText p root (fellOf plan (now (work .entry))) rounds) r (now (out .exit))) × (r ≤ 1000000001000000000) × Used plan (now (work .entry)) (now (work .exit)) ⌝ }
 {
     let end = put_lists(b, work, plan, rounds, figures, out, at);
     let names = put_uncharacterised(b, work, plan, root, out, end);
@@ -137,8 +137,8 @@ fn with_lists<'b, 'c, 'a>(
     figures: Figures,
     w: Writer<'a>,
 ) -> Writer<'a>
-    requires { ⌜ SomeReporting (now b) (now work) plan rounds figures × (rounds < 4096) × (w .filled ≤ 1000) × Remembering (now b) plan (now work) ⌝ }
-    ensures { λ r. ⌜ ((p : Program) → Reporting (now (b .entry)) p (now (work .entry)) plan rounds figures → r ≡ written (w .entry) (listedText p root (fellOf plan (now (work .entry))) rounds)) × (r .filled ≤ 1000000001000000000) × Used (now (b .entry)) plan (now (work .entry)) (now (work .exit)) ⌝ }
+    requires { ⌜ SomeReporting (now b) (now work) plan rounds figures × (rounds < 4096) × (w .filled ≤ 1000) ⌝ }
+    ensures { λ r. ⌜ ((p : Program) → Reporting (now (b .entry)) p (now (work .entry)) plan rounds figures → r ≡ written (w .entry) (listedText p root (fellOf plan (now (work .entry))) rounds)) × (r .filled ≤ 1000000001000000000) × Used plan (now (work .entry)) (now (work .exit)) ⌝ }
 {
     let at = w.filled;
     let next = put_listed(b, work, plan, root, rounds, figures, &mut *w.text, at);
@@ -159,9 +159,9 @@ pub fn format_clean_report(
     figures: Figures,
     out: &mut [u8],
 ) -> usize
-    requires { ⌜ SomeReporting (now b) (now work) plan rounds figures × (rounds < 4096) × Remembering (now b) plan (now work) ⌝ }
+    requires { ⌜ SomeReporting (now b) (now work) plan rounds figures × (rounds < 4096) ⌝ }
     ensures written { λ r. ⌜ ((w : Program) → Reporting (now (b .entry)) w (now (work .entry)) plan rounds figures → root ≡ rootPlace w → Emitted (now (out .entry)) 0 (formatCleanReport (toldReport w (fellOf plan (now (work .entry))) rounds)) r (now (out .exit))) ⌝ }
-    ensures keeps { λ _. ⌜ Used (now (b .entry)) plan (now (work .entry)) (now (work .exit)) ⌝ }
+    ensures keeps { λ _. ⌜ Used plan (now (work .entry)) (now (work .exit)) ⌝ }
 {
     let w = Writer {
         text: out,

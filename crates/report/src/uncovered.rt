@@ -38,7 +38,7 @@ ghost use Rattle.meaning.specs.Cleaning.{isDisjoint};
 ghost use Rattle.meaning.specs.CleanReport.{sameUncovered};
 ghost use Rattle.told.specs.History.{isThere, afterAll};
 ghost use Rattle.cleaning.specs.Indexed.{fellOf};
-ghost use Rattle.cleaning.specs.Room.{Remembering, Used};
+ghost use Rattle.cleaning.specs.Room.{Used};
 ghost use Rattle.meaning.specs.Text.{formatTerms};
 ghost use Rattle.cleaning.specs.Walks.{Owns};
 ghost use Rattle.told.specs.ToldReport.{uncoveredIn, judgedOnly, uncoveredTold, runsAfter};
@@ -51,9 +51,9 @@ ghost use Rattle.report.specs.Uncovered.{uncoveredOne, lastUncovered, is
 // Whether the sentence s is left, and not Disjoint from the argument of the plain site i, which is left too. The witness
 // tells it of the sites up to its own; the others are asked.
 fn covers(b: &[u8], work: &mut [u32], plan: Plan, s: usize, i: usize) -> bool
-    requires { ⌜ SomeSite (now b) (now work) plan i × (s < plan .sentences) × Remembering (now b) plan (now work) ⌝ }
+    requires { ⌜ SomeSite (now b) (now work) plan i × (s < plan .sentences) ⌝ }
     ensures answers { λ r. ⌜ ((w : Program) (f : ℕ) (x : Function) (y : Held) (z : Sentence) → Readable (now (b .entry)) w (now (work .entry)) plan → Owns w f x s z → getElem? (sitesOf w) i ≡ some y → isListed true (x .name) y ≡ true → isThere (fellOf plan (now (work .entry))) afterAll (y .sentence) ≡ true → r ≡ (isThere (fellOf plan (now (work .entry))) afterAll s && not (isDisjoint (patternsOverlap (z .pattern) (y .site .argument))))) ⌝ }
-    ensures keeps { λ _. ⌜ Used (now (b .entry)) plan (now (work .entry)) (now (work .exit)) ⌝ }
+    ensures keeps { λ _. ⌜ Used plan (now (work .entry)) (now (work .exit)) ⌝ }
 {
     if !is_there(work, plan, s, AFTER_ALL) {
         return false;
@@ -72,9 +72,9 @@ fn covers(b: &[u8], work: &mut [u32], plan: Plan, s: usize, i: usize) -> bool
 
 // Whether some sentence of the f-th function covers the argument of the plain site i.
 fn is_covered(b: &[u8], work: &mut [u32], plan: Plan, f: usize, i: usize) -> bool
-    requires { ⌜ SomeSite (now b) (now work) plan i × (f < plan .functions) × Remembering (now b) plan (now work) ⌝ }
+    requires { ⌜ SomeSite (now b) (now work) plan i × (f < plan .functions) ⌝ }
     ensures answers { λ r. ⌜ ((w : Program) (x : Function) (y : Held) → Readable (now (b .entry)) w (now (work .entry)) plan → getElem? (w .functions) f ≡ some x → getElem? (sitesOf w) i ≡ some y → isListed true (x .name) y ≡ true → isThere (fellOf plan (now (work .entry))) afterAll (y .sentence) ≡ true → isUncovered (isThere (fellOf plan (now (work .entry))) afterAll) x (sentencesBefore f (w .functions)) (y .site .argument) ≡ not r) ⌝ }
-    ensures keeps { λ _. ⌜ Used (now (b .entry)) plan (now (work .entry)) (now (work .exit)) ⌝ }
+    ensures keeps { λ _. ⌜ Used plan (now (work .entry)) (now (work .exit)) ⌝ }
 {
     let end = first_sentence(work, plan, f + 1);
     let mut s = first_sentence(work, plan, f);
@@ -174,10 +174,10 @@ fn put_if_uncovered(
     out: &mut [u8],
     listed: Listed,
 ) -> Listed
-    requires { ⌜ SomeSite (now b) (now work) plan i × (f < plan .functions) × (listed .function ≤ f) × ((w : Program) → Readable (now b) w (now work) plan → PlainAt w (listed .function) (listed .item)) × (listed .at + 80000 ≤ limit) × (listed .count ≤ listed .at) × Remembering (now b) plan (now work) ⌝ }
+    requires { ⌜ SomeSite (now b) (now work) plan i × (f < plan .functions) × (listed .function ≤ f) × ((w : Program) → Readable (now b) w (now work) plan → PlainAt w (listed .function) (listed .item)) × (listed .at + 80000 ≤ limit) × (listed .count ≤ listed .at) ⌝ }
     ensures told { λ r. ⌜ ((w : Program) (x : Function) (y : Held) → Readable (now (b .entry)) w (now (work .entry)) plan → getElem? (w .functions) f ≡ some x → getElem? (sitesOf w) i ≡ some y → isListed true (x .name) y ≡ true → Uncovered w (uncoveredAt (isThere (fellOf plan (now (work .entry))) afterAll) (sitesOf w) x (sentencesBefore f (w .functions)) i y) (now (out .entry)) (listed .at) (listed .count) (listed .function) (listed .item) (now (out .exit)) (r .at) (r .count) (r .function) (r .item)) ⌝ }
     ensures short { λ r. ⌜ (r .at ≤ listed .at + 80000) × (r .count ≤ r .at) × (r .function ≤ f) ⌝ }
-    ensures keeps { λ _. ⌜ Used (now (b .entry)) plan (now (work .entry)) (now (work .exit)) ⌝ }
+    ensures keeps { λ _. ⌜ Used plan (now (work .entry)) (now (work .exit)) ⌝ }
 {
     if !leads(work, plan, i, AFTER_ALL) {
         return listed;
@@ -197,10 +197,10 @@ fn put_uncovered_in(
     out: &mut [u8],
     listed: Listed,
 ) -> Listed
-    requires { ⌜ SomeReadable (now b) (now work) plan × (f < plan .functions) × (listed .function ≤ f) × ((w : Program) → Readable (now b) w (now work) plan → PlainAt w (listed .function) (listed .item)) × (listed .at + 8192 * 80000 ≤ limit) × (listed .count ≤ listed .at) × Remembering (now b) plan (now work) ⌝ }
+    requires { ⌜ SomeReadable (now b) (now work) plan × (f < plan .functions) × (listed .function ≤ f) × ((w : Program) → Readable (now b) w (now work) plan → PlainAt w (listed .function) (listed .item)) × (listed .at + 8192 * 80000 ≤ limit) × (listed .count ≤ listed .at) ⌝ }
     ensures told { λ r. ⌜ ((w : Program) (x : Function) → Readable (now (b .entry)) w (now (work .entry)) plan → getElem? (w .functions) f ≡ some x → Uncovered w (uncoveredIn (isThere (fellOf plan (now (work .entry))) afterAll) (sitesOf w) (sentencesBefore f (w .functions)) x) (now (out .entry)) (listed .at) (listed .count) (listed .function) (listed .item) (now (out .exit)) (r .at) (r .count) (r .function) (r .item)) ⌝ }
     ensures short { λ r. ⌜ (r .at ≤ listed .at + 8192 * 80000) × (r .count ≤ r .at) × (r .function ≤ f) ⌝ }
-    ensures keeps { λ _. ⌜ Used (now (b .entry)) plan (now (work .entry)) (now (work .exit)) ⌝ }
+    ensures keeps { λ _. ⌜ Used plan (now (work .entry)) (now (work .exit)) ⌝ }
 {
     let links = links_of(plan);
     let mut i = head_site(work, plan.functions, f, true);
@@ -221,10 +221,10 @@ fn put_if_judged(
     out: &mut [u8],
     listed: Listed,
 ) -> Listed
-    requires { ⌜ SomeReadable (now b) (now work) plan × (f < plan .functions) × (listed .function ≤ f) × ((w : Program) → Readable (now b) w (now work) plan → PlainAt w (listed .function) (listed .item)) × (listed .at + 8192 * 80000 ≤ limit) × (listed .count ≤ listed .at) × Remembering (now b) plan (now work) ⌝ }
+    requires { ⌜ SomeReadable (now b) (now work) plan × (f < plan .functions) × (listed .function ≤ f) × ((w : Program) → Readable (now b) w (now work) plan → PlainAt w (listed .function) (listed .item)) × (listed .at + 8192 * 80000 ≤ limit) × (listed .count ≤ listed .at) ⌝ }
     ensures told { λ r. ⌜ ((w : Program) (x : Function) → Readable (now (b .entry)) w (now (work .entry)) plan → getElem? (w .functions) f ≡ some x → Uncovered w (judgedOnly (isJudged (isThere (fellOf plan (now (work .entry))) afterAll) (x .name) (sitesOf w)) (uncoveredIn (isThere (fellOf plan (now (work .entry))) afterAll) (sitesOf w) (sentencesBefore f (w .functions)) x)) (now (out .entry)) (listed .at) (listed .count) (listed .function) (listed .item) (now (out .exit)) (r .at) (r .count) (r .function) (r .item)) ⌝ }
     ensures short { λ r. ⌜ (r .at ≤ listed .at + 8192 * 80000) × (r .count ≤ r .at) × (r .function ≤ f) ⌝ }
-    ensures keeps { λ _. ⌜ Used (now (b .entry)) plan (now (work .entry)) (now (work .exit)) ⌝ }
+    ensures keeps { λ _. ⌜ Used plan (now (work .entry)) (now (work .exit)) ⌝ }
 {
     if !is_judged(work, plan, f, AFTER_ALL) {
         return listed;
@@ -235,11 +235,11 @@ fn put_if_judged(
 // Every uncovered restriction as a line, neighbouring repeats left out. Functions of one name share their sites, so
 // there may be a line for each function and site.
 pub fn put_uncovered(b: &[u8], work: &mut [u32], plan: Plan, out: &mut [u8], at: usize) -> Listed
-    requires { ⌜ SomeReadable (now b) (now work) plan × (at + 8192 * (8192 * 80000) ≤ limit) × Remembering (now b) plan (now work) ⌝ }
+    requires { ⌜ SomeReadable (now b) (now work) plan × (at + 8192 * (8192 * 80000) ≤ limit) ⌝ }
     ensures told { λ r. ⌜ ((w : Program) → Readable (now (b .entry)) w (now (work .entry)) plan → Emitted (now (out .entry)) at (flatMap uncoveredLine (runsAfter sameUncovered [] (uncoveredTold (isThere (fellOf plan (now (work .entry))) afterAll) (sitesOf w) 0 (w .functions)))) (r .at) (now (out .exit))) ⌝ }
     ensures counted { λ r. ⌜ ((w : Program) → Readable (now (b .entry)) w (now (work .entry)) plan → r .count ≡ length (runsAfter sameUncovered [] (uncoveredTold (isThere (fellOf plan (now (work .entry))) afterAll) (sitesOf w) 0 (w .functions)))) ⌝ }
     ensures short { λ r. ⌜ r .at ≤ at + 8192 * (8192 * 80000) ⌝ }
-    ensures keeps { λ _. ⌜ Used (now (b .entry)) plan (now (work .entry)) (now (work .exit)) ⌝ }
+    ensures keeps { λ _. ⌜ Used plan (now (work .entry)) (now (work .exit)) ⌝ }
 {
     let mut last = Listed {
         at: at,

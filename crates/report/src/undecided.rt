@@ -32,7 +32,7 @@ ghost use Rattle.told.specs.Asked.{isJudged};
 ghost use Rattle.meaning.specs.CleanReport.{sameUndecided};
 ghost use Rattle.told.specs.History.{isThere, afterAll};
 ghost use Rattle.cleaning.specs.Indexed.{Indexed, fellOf};
-ghost use Rattle.cleaning.specs.Room.{Remembering, Used};
+ghost use Rattle.cleaning.specs.Room.{Used};
 ghost use Rattle.told.specs.ToldReport.{overlaps, undecidedIn, judgedOnly, undecidedTold, runsAfter};
 ghost use Rattle.cleaning.specs.Walks.{SomeAsked, Owns};
 ghost use Rattle.text.specs.Fill.{Emitted, limit};
@@ -58,9 +58,9 @@ fn overlaps_at(
     i: usize,
     round: usize,
 ) -> bool
-    requires { ⌜ SomeAsked (now b) (now work) plan pattern i × (length (now b) ≤ 32768) × Remembering (now b) plan (now work) ⌝ }
+    requires { ⌜ SomeAsked (now b) (now work) plan pattern i × (length (now b) ≤ 32768) ⌝ }
     ensures answers { λ r. ⌜ ((w : Program) (f : ℕ) (x : Function) (y : Held) → Indexed (now (b .entry)) w (now (work .entry)) plan → getElem? (w .functions) f ≡ some x → getElem? (sitesOf w) i ≡ some y → isListed true (x .name) y ≡ true → (t : TermsAt Mode.pattern (drop pattern (now (b .entry)))) → r ≡ overlaps (isThere (fellOf plan (now (work .entry))) round) (x .name) (t .terms) y) ⌝ }
-    ensures keeps { λ _. ⌜ Used (now (b .entry)) plan (now (work .entry)) (now (work .exit)) ⌝ }
+    ensures keeps { λ _. ⌜ Used plan (now (work .entry)) (now (work .exit)) ⌝ }
 {
     if !site_there(work, plan, i, round) {
         return false;
@@ -70,9 +70,9 @@ fn overlaps_at(
 
 // Whether a restriction of the f-th function gives its sentence s Overlap in the end. The sites before its witness give Disjoint.
 fn is_decided(b: &[u8], work: &mut [u32], plan: Plan, f: usize, s: usize) -> bool
-    requires { ⌜ SomeSentence (now b) (now work) plan f s × Remembering (now b) plan (now work) ⌝ }
+    requires { ⌜ SomeSentence (now b) (now work) plan f s ⌝ }
     ensures answers { λ r. ⌜ ((w : Program) (x : Function) (y : Sentence) → Readable (now (b .entry)) w (now (work .entry)) plan → Owns w f x s y → r ≡ any (overlaps (isThere (fellOf plan (now (work .entry))) afterAll) (x .name) (y .pattern)) (sitesOf w)) ⌝ }
-    ensures keeps { λ _. ⌜ Used (now (b .entry)) plan (now (work .entry)) (now (work .exit)) ⌝ }
+    ensures keeps { λ _. ⌜ Used plan (now (work .entry)) (now (work .exit)) ⌝ }
 {
     let pattern = pattern_place(work, plan, s);
     let links = links_of(plan);
@@ -142,10 +142,10 @@ fn put_if_undecided(
     out: &mut [u8],
     listed: Listed,
 ) -> Listed
-    requires { ⌜ SomeSentence (now b) (now work) plan f s × (listed .function ≤ f) × (listed .at + 80000 ≤ limit) × (listed .count ≤ listed .at) × Remembering (now b) plan (now work) ⌝ }
+    requires { ⌜ SomeSentence (now b) (now work) plan f s × (listed .function ≤ f) × (listed .at + 80000 ≤ limit) × (listed .count ≤ listed .at) ⌝ }
     ensures told { λ r. ⌜ ((w : Program) (x : Function) (y : Sentence) → Readable (now (b .entry)) w (now (work .entry)) plan → Owns w f x s y → Undecided w (undecidedAt (isThere (fellOf plan (now (work .entry))) afterAll) (sitesOf w) x s y) (now (out .entry)) (listed .at) (listed .count) (listed .function) (listed .item) (now (out .exit)) (r .at) (r .count) (r .function) (r .item)) ⌝ }
     ensures short { λ r. ⌜ (r .at ≤ listed .at + 80000) × (r .count ≤ r .at) × (r .function ≤ f) ⌝ }
-    ensures keeps { λ _. ⌜ Used (now (b .entry)) plan (now (work .entry)) (now (work .exit)) ⌝ }
+    ensures keeps { λ _. ⌜ Used plan (now (work .entry)) (now (work .exit)) ⌝ }
 {
     if !is_there(work, plan, s, AFTER_ALL) {
         return listed;
@@ -165,10 +165,10 @@ fn put_undecided_in(
     out: &mut [u8],
     listed: Listed,
 ) -> Listed
-    requires { ⌜ SomeReadable (now b) (now work) plan × (f < plan .functions) × (listed .function ≤ f) × ((w : Program) → Readable (now b) w (now work) plan → listed .at + 80000 * sentencesBefore (suc f) (w .functions) ≤ limit + 80000 * sentencesBefore f (w .functions)) × (listed .count ≤ listed .at) × Remembering (now b) plan (now work) ⌝ }
+    requires { ⌜ SomeReadable (now b) (now work) plan × (f < plan .functions) × (listed .function ≤ f) × ((w : Program) → Readable (now b) w (now work) plan → listed .at + 80000 * sentencesBefore (suc f) (w .functions) ≤ limit + 80000 * sentencesBefore f (w .functions)) × (listed .count ≤ listed .at) ⌝ }
     ensures told { λ r. ⌜ ((w : Program) (x : Function) → Readable (now (b .entry)) w (now (work .entry)) plan → getElem? (w .functions) f ≡ some x → Undecided w (undecidedIn (isThere (fellOf plan (now (work .entry))) afterAll) (sitesOf w) (sentencesBefore f (w .functions)) x) (now (out .entry)) (listed .at) (listed .count) (listed .function) (listed .item) (now (out .exit)) (r .at) (r .count) (r .function) (r .item)) ⌝ }
     ensures short { λ r. ⌜ ((w : Program) → Readable (now (b .entry)) w (now (work .entry)) plan → r .at + 80000 * sentencesBefore f (w .functions) ≤ listed .at + 80000 * sentencesBefore (suc f) (w .functions)) × (r .count ≤ r .at) × (r .function ≤ f) ⌝ }
-    ensures keeps { λ _. ⌜ Used (now (b .entry)) plan (now (work .entry)) (now (work .exit)) ⌝ }
+    ensures keeps { λ _. ⌜ Used plan (now (work .entry)) (now (work .exit)) ⌝ }
 {
     let end = first_sentence(work, plan, f + 1);
     let mut s = first_sentence(work, plan, f);
@@ -189,10 +189,10 @@ fn put_if_judged(
     out: &mut [u8],
     listed: Listed,
 ) -> Listed
-    requires { ⌜ SomeReadable (now b) (now work) plan × (f < plan .functions) × (listed .function ≤ f) × ((w : Program) → Readable (now b) w (now work) plan → listed .at + 80000 * sentencesBefore (suc f) (w .functions) ≤ limit + 80000 * sentencesBefore f (w .functions)) × (listed .count ≤ listed .at) × Remembering (now b) plan (now work) ⌝ }
+    requires { ⌜ SomeReadable (now b) (now work) plan × (f < plan .functions) × (listed .function ≤ f) × ((w : Program) → Readable (now b) w (now work) plan → listed .at + 80000 * sentencesBefore (suc f) (w .functions) ≤ limit + 80000 * sentencesBefore f (w .functions)) × (listed .count ≤ listed .at) ⌝ }
     ensures told { λ r. ⌜ ((w : Program) (x : Function) → Readable (now (b .entry)) w (now (work .entry)) plan → getElem? (w .functions) f ≡ some x → Undecided w (judgedOnly (isJudged (isThere (fellOf plan (now (work .entry))) afterAll) (x .name) (sitesOf w)) (undecidedIn (isThere (fellOf plan (now (work .entry))) afterAll) (sitesOf w) (sentencesBefore f (w .functions)) x)) (now (out .entry)) (listed .at) (listed .count) (listed .function) (listed .item) (now (out .exit)) (r .at) (r .count) (r .function) (r .item)) ⌝ }
     ensures short { λ r. ⌜ ((w : Program) → Readable (now (b .entry)) w (now (work .entry)) plan → r .at + 80000 * sentencesBefore f (w .functions) ≤ listed .at + 80000 * sentencesBefore (suc f) (w .functions)) × (r .count ≤ r .at) × (r .function ≤ f) ⌝ }
-    ensures keeps { λ _. ⌜ Used (now (b .entry)) plan (now (work .entry)) (now (work .exit)) ⌝ }
+    ensures keeps { λ _. ⌜ Used plan (now (work .entry)) (now (work .exit)) ⌝ }
 {
     if !is_judged(work, plan, f, AFTER_ALL) {
         return listed;
@@ -202,11 +202,11 @@ fn put_if_judged(
 
 // Every undecided sentence as a line, neighbouring repeats left out.
 pub fn put_undecided(b: &[u8], work: &mut [u32], plan: Plan, out: &mut [u8], at: usize) -> Listed
-    requires { ⌜ SomeReadable (now b) (now work) plan × (at + 8192 * 80000 ≤ limit) × Remembering (now b) plan (now work) ⌝ }
+    requires { ⌜ SomeReadable (now b) (now work) plan × (at + 8192 * 80000 ≤ limit) ⌝ }
     ensures told { λ r. ⌜ ((w : Program) → Readable (now (b .entry)) w (now (work .entry)) plan → Emitted (now (out .entry)) at (flatMap undecidedLine (runsAfter sameUndecided [] (undecidedTold (isThere (fellOf plan (now (work .entry))) afterAll) (sitesOf w) 0 (w .functions)))) (r .at) (now (out .exit))) ⌝ }
     ensures counted { λ r. ⌜ ((w : Program) → Readable (now (b .entry)) w (now (work .entry)) plan → r .count ≡ length (runsAfter sameUndecided [] (undecidedTold (isThere (fellOf plan (now (work .entry))) afterAll) (sitesOf w) 0 (w .functions)))) ⌝ }
     ensures short { λ r. ⌜ r .at ≤ at + 8192 * 80000 ⌝ }
-    ensures keeps { λ _. ⌜ Used (now (b .entry)) plan (now (work .entry)) (now (work .exit)) ⌝ }
+    ensures keeps { λ _. ⌜ Used plan (now (work .entry)) (now (work .exit)) ⌝ }
 {
     let mut last = Listed {
         at: at,

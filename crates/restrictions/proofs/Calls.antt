@@ -9,7 +9,7 @@ use Rattle.program.specs.Bytes.{put32, putSpan, putName}
 use Rattle.program.specs.Encode.{putTerms}
 use Rattle.image.specs.Parts.{Passes, NameAt}
 use Rattle.symbols.proofs.Parts.{part-rest}
-use Rattle.overlap.proofs.Readings.{part}
+use Rattle.rows.proofs.Readings.{part}
 use Rattle.restrictions.specs.Entries.{CallAt}
 
 module _ {s : List ℕ} (x : CallAt s) where

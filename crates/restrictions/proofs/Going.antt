@@ -12,7 +12,7 @@ use Rattle.program.specs.Limits.{Mode}
 use Rattle.image.specs.Parts.{Passes, TermsAt, putSentence, SentenceAt, tail}
 use Rattle.program.proofs.Lengths.{head-length, terms-length, conditions-length}
 use Rattle.symbols.proofs.Parts.{part-rest}
-use Rattle.overlap.proofs.Readings.{part, part-length, part-part}
+use Rattle.rows.proofs.Readings.{part, part-length, part-part}
 use Rattle.restrictions.specs.declared.Walk.{Walk}
 use Rattle.meaning.specs.Sites.{Site, site}
 use Rattle.restrictions.specs.Entries.{CallAt, entryOffset, entrySentence, Entry, Appended}

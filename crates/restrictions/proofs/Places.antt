@@ -13,7 +13,7 @@ use Rattle.image.specs.Parts.{Passes, putSentence, SentenceAt, FunctionAt}
 use Rattle.program.specs.Sentences.{Sentence, sentenceList, ownSentences}
 use Rattle.program.proofs.Lengths.{span-length, name-length, head-length, terms-length, conditions-length}
 use Rattle.symbols.proofs.Parts.{part-rest}
-use Rattle.overlap.proofs.Readings.{part, part-length}
+use Rattle.rows.proofs.Readings.{part, part-length}
 use Rattle.restrictions.proofs.Going.{from-part}
 
 -- What stands at a place of the walk: the functions fs, or a function's sentences and then fs. The sentences to come are xs.

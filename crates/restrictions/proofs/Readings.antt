@@ -9,7 +9,7 @@ use Rattle.image.specs.Parts.{Passes, putSentence, SentenceAt}
 use Rattle.program.specs.Sentences.{Sentence}
 use Rattle.program.proofs.Lengths.{head-length}
 use Rattle.symbols.proofs.Parts.{part-rest}
-use Rattle.overlap.proofs.Readings.{part, part-length, part-part}
+use Rattle.rows.proofs.Readings.{part, part-length, part-part}
 use Rattle.restrictions.specs.declared.Walk.{Walk}
 use Rattle.meaning.specs.Sites.{Site, collectCallSites, conditionSites}
 use Rattle.told.specs.Numbered.{heldBy, ownSites}

@@ -5,7 +5,7 @@ use mathlib.Core.Path.{_≡_, refl, ap, _∙_}
 use mathlib.Core.Logic.{_⊎_, inl, inr}
 use mathlib.Core.List.{List, [], _++_}
 use lib.ListN.{length}
-use Rattle.overlap.proofs.Readings.{part}
+use Rattle.rows.proofs.Readings.{part}
 use Rattle.meaning.specs.Sites.{Site}
 use Rattle.restrictions.specs.Records.{Records, putRecords, recordSites, ValidRecords}
 use Rattle.restrictions.proofs.Inside.{sort}

@@ -8,7 +8,7 @@ use Rattle.program.specs.Syntax.{Function}
 use Rattle.program.specs.Encode.{putSentences, putFunctions}
 use Rattle.image.specs.Parts.{Passes, FunctionAt, FunctionsAt}
 use Rattle.program.specs.Sentences.{Sentence, ownSentences}
-use Rattle.overlap.proofs.Readings.{part}
+use Rattle.rows.proofs.Readings.{part}
 use Rattle.restrictions.specs.declared.Walk.{Walk}
 use Rattle.meaning.specs.Sites.{functionSites}
 use Rattle.told.specs.Numbered.{Held, heldBy, ownSites, heldSites}

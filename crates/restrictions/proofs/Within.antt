@@ -13,7 +13,7 @@ use Rattle.image.specs.Parts.{Passes, TermsAt, tail}
 use Rattle.program.proofs.Lengths.{terms-length}
 use Rattle.image.proofs.Readings.{fewer-around}
 use Rattle.symbols.proofs.Parts.{part-rest}
-use Rattle.overlap.proofs.Readings.{part, part-length, part-part, tail-valid}
+use Rattle.rows.proofs.Readings.{part, part-length, part-part, tail-valid}
 use Rattle.configuration.proofs.Lockstep.{putAll}
 use Rattle.meaning.specs.Lists.{all}
 use Rattle.meaning.specs.Sites.{restrictionIsCharacterisable}

@@ -18,7 +18,7 @@ use Rattle.image.proofs.Readings.{first-byte, fewer-around}
 use Rattle.patterns.specs.Ascii.{ascii}
 use Rattle.symbols.specs.Parts.{SymbolAt}
 use Rattle.symbols.proofs.Parts.{part-rest}
-use Rattle.overlap.proofs.Readings.{part, first-at, next-at}
+use Rattle.rows.proofs.Readings.{part, first-at, next-at}
 use Rattle.meaning.specs.Text.{Text, quote, utf8, formatSymbol, formatKind, gap, formatTerms}
 use Rattle.text.specs.Parts.{VariableAt}
 use Rattle.text.specs.FormatTerm.{formatTerm, gapBefore}

@@ -17,7 +17,7 @@ use Rattle.image.proofs.Readings.{first-byte}
 use Rattle.patterns.specs.Ascii.{ascii}
 use Rattle.symbols.specs.Parts.{SymbolAt}
 use Rattle.symbols.proofs.Parts.{part-rest}
-use Rattle.overlap.proofs.Readings.{part}
+use Rattle.rows.proofs.Readings.{part}
 use Rattle.meaning.specs.Text.{utf8, quote, formatSymbol, formatKind}
 use Rattle.text.specs.Parts.{VariableAt}
 use Rattle.text.specs.FormatTerm.{kindLetter}

@@ -1,8 +1,6 @@
 -- `cleaner::compare` meets its contract. Assumes nothing.
 use denote.Ref.{now}
-use native.Mathlib.Omega.{arith}
 use Rattle.cleaner.proofs.Sentences.{pattern-part, compared, fuel-left}
-use Rattle.cleaner.proofs.Searching.{zero-remembers}
 use borrow.Author.Needs.{needs}
 use Rattle.cleaner.proofs.compare.Statement.{statement}
 use Rattle.cleaner.proofs.compare.Tie as tie
@@ -19,7 +17,7 @@ slice-aggregate-patterns-overlap c = search needs
 patterns-overlap-requires : tie.Need-patterns-overlap-requires
 patterns-overlap-requires c κs =
     let x = c .before .before in
-    (pattern-part (now (x .args .b)) (x .args .i) (x .pre .0), pattern-part (now (x .args .b)) (x .args .j) (x .pre .1), x .pre .2, zero-remembers (now (x .args .b)) 7878 (record { frames = 5958; begun = 768; slots = 192 }) (omega arith))
+    (pattern-part (now (x .args .b)) (x .args .i) (x .pre .0), pattern-part (now (x .args .b)) (x .args .j) (x .pre .1), x .pre .2)
 
 sub-spent : tie.Need-sub-spent
 sub-spent c =

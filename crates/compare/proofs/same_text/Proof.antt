@@ -5,7 +5,7 @@ use mathlib.Core.Path.{refl, sym}
 use lib.ListN.{length}
 use Rattle.program.specs.Limits.{Mode}
 use Rattle.image.specs.Parts.{TermsAt}
-use Rattle.overlap.proofs.Readings.{part-length}
+use Rattle.rows.proofs.Readings.{part-length}
 use Rattle.compare.proofs.Letters.{letters-short}
 use Rattle.compare.proofs.Cursor.{last-close, cursor-within, going, gone, Comparing, comparing-first, first-ends, second-ends, letters-differ, comparing-next}
 use Rattle.compare.proofs.same_text.Statement.{statement}

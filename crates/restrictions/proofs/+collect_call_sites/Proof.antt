@@ -10,7 +10,7 @@ use Rattle.program.specs.Limits.{Mode}
 use Rattle.image.proofs.part.conditions_start.Reads as conditions-start-reads
 use Rattle.image.proofs.part.result_start.Reads as result-start-reads
 use Rattle.image.proofs.part.term_len.Reads as term-len-reads
-use Rattle.overlap.proofs.Readings.{part-length}
+use Rattle.rows.proofs.Readings.{part-length}
 use Rattle.restrictions.specs.Records.{RecordsAt}
 use Rattle.restrictions.proofs.Stage.{toGo, less-on, less-in}
 use Rattle.restrictions.proofs.Going.{Going, bodyWith, body-with, part-of-body, going-first, going-within, going-length, stands, inner-reading, inner-room, inner-fits, descended, flat-part, flat-fits, flat-passed, call-part, call-space, argument-fits, call-passed, sentence-part, none-before, conditions-fits, result-fits, sentence-entered, inside-fits, lists-opened, going-done, resumed, resumed-less}

@@ -5,7 +5,7 @@ use mathlib.Core.Path.{sym}
 use lib.ListN.{length}
 use Rattle.program.specs.Limits.{Mode}
 use Rattle.image.specs.Parts.{TermsAt}
-use Rattle.overlap.proofs.Readings.{part-length}
+use Rattle.rows.proofs.Readings.{part-length}
 use Rattle.restrictions.proofs.Within.{Within, within-first, within-terms, within-room, within-call, within-block, within-bracket, bracket-fits, within-last, within-close, within-flat, flat-fits}
 use Rattle.restrictions.proofs.restriction_is_characterisable.Statement.{statement}
 use Rattle.restrictions.proofs.restriction_is_characterisable.Tie as tie

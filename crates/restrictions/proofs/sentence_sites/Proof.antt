@@ -4,7 +4,7 @@ use native.Mathlib.Omega.{arith}
 use mathlib.Core.Path.{refl, sym, _∙_}
 use lib.ListN.{length}
 use Rattle.symbols.proofs.Parts.{part-rest}
-use Rattle.overlap.proofs.Readings.{part-length}
+use Rattle.rows.proofs.Readings.{part-length}
 use Rattle.restrictions.proofs.Appended.{appended-length}
 use Rattle.restrictions.proofs.Readings.{sentence-there, sentence-within, place-fits, result-records, result-room, result-end, conditions-records, conditions-room, sentence-collected}
 use Rattle.restrictions.proofs.sentence_sites.Statement.{statement}

@@ -55,7 +55,7 @@ count-lists-requires : tie.Need-count-lists-requires
 count-lists-requires c κs =
     let x = c .before .before .before .before .before .before .before .before .before .before .before .before .pre .0 in
     let q = marks-are (c .before .before .before .before .before .before .before .before .before .before .before .before .args .work .now) (c .before .before .before .before .before .before .before .before .before .before .before .before .args .plan) (c .before .before .before .before .before .before .marks-of .ensures) (c .before .before .before .before .before .calls-of .ensures) in
-    (record { program = x .accepted .program; removing = x .delivery .removing }, x .few, omega (arith, c .before .before .count-ones .ensures (x .accepted .program .functions) (none-from (x .accepted) (c .before .before .before .before .before .before .before .before .before .before .before .before .args .plan) (x .delivery) q), after-few (x .accepted) (c .before .before .before .before .before .before .before .before .before .before .before .before .args .plan) (x .delivery) q, sentences-few (x .accepted) (c .before .before .before .before .before .before .before .before .before .before .before .before .args .plan) (x .delivery) q), c .before .before .before .before .before .before .before .before .before .before .before .before .pre .2)
+    (record { program = x .accepted .program; removing = x .delivery .removing }, x .few, omega (arith, c .before .before .count-ones .ensures (x .accepted .program .functions) (none-from (x .accepted) (c .before .before .before .before .before .before .before .before .before .before .before .before .args .plan) (x .delivery) q), after-few (x .accepted) (c .before .before .before .before .before .before .before .before .before .before .before .before .args .plan) (x .delivery) q, sentences-few (x .accepted) (c .before .before .before .before .before .before .before .before .before .before .before .before .args .plan) (x .delivery) q))
 
 slice-relend-prefix-measure-clean-report : tie.Need-slice-relend-prefix-measure-clean-report
 slice-relend-prefix-measure-clean-report c = search needs
@@ -104,7 +104,7 @@ format-clean-report-requires c κs =
     let q = marks-are ((c .before .before .before .before .before .before .before .before .before .before .before .before .before .before .before .before .before .before .before .before .before .before .before .before .before) .args .work .now) ((c .before .before .before .before .before .before .before .before .before .before .before .before .before .before .before .before .before .before .before .before .before .before .before .before .before) .args .plan) ((c .before .before .before .before .before .before .before .before .before .before .before .before .before .before .before .before .before .before .before) .marks-of .ensures) ((c .before .before .before .before .before .before .before .before .before .before .before .before .before .before .before .before .before .before) .calls-of .ensures) in
     let e = (c .before .before .before .before .before .before .before .before .before .before .before .before .before .before .before) .count-ones .ensures (x .accepted .program .functions) (none-from (x .accepted) ((c .before .before .before .before .before .before .before .before .before .before .before .before .before .before .before .before .before .before .before .before .before .before .before .before .before) .args .plan) d q) ∙ after-told (x .accepted) ((c .before .before .before .before .before .before .before .before .before .before .before .before .before .before .before .before .before .before .before .before .before .before .before .before .before) .args .plan) d q in
     let u = (c .before .before .before .before .before .before .before .before .before .before .before .before) .count-lists .ensures .1 .1 in
-    (record { program = x .accepted .program; reporting = used-reporting u (record { removing = d .removing; figures = (c .before .before .before .before .before .before .before .before .before .before .before .before) .count-lists .ensures .0 (x .accepted .program) (d .removing) e (d .root-is) .0 }); few = (c .before .before .before .before .before .before .before .before .before .before .before .before) .count-lists .ensures .1 .0 }, x .few, u .remembers)
+    (record { program = x .accepted .program; reporting = used-reporting u (record { removing = d .removing; figures = (c .before .before .before .before .before .before .before .before .before .before .before .before) .count-lists .ensures .0 (x .accepted .program) (d .removing) e (d .root-is) .0 }); few = (c .before .before .before .before .before .before .before .before .before .before .before .before) .count-lists .ensures .1 .0 }, x .few)
 
 mul-write-kept : tie.Need-mul-write-kept
 mul-write-kept c = let x = (c .before .before .before .before .before .before .before .before .before .before .before .before .before .before .before .before .before .before .before .before .before .before .before .before .before .before .before .before .before .before) .pre .0 .delivery .removing .readable .indexed in record { fits = omega (arith, x .fits, x .small, (c .before .before .before .before .before .before .before .before .before .before .before .before .before .before .before .before .before .before .before .before .before .before .before .before) .marks-of .ensures) }

@@ -72,7 +72,7 @@ clean-listed-requires c κs = let a = (c .before .before .before .before .before
 deliver-requires : tie.Need-deliver-requires
 deliver-requires c κs = let a = (c .before .before .before .before .before .before .before .before .before .before .before .before .before .before .before .before .before .before .before .before .before .before .before) .pre .0 in
     let l = ((c .before .before .before .before .before .before .before .before .before .before .before .before .before) .list-program .ensures (a .program) (body-of ((c .before .before .before .before .before .before .before .before .before .before .before .before .before .before .before .before .before .before .before .before .before .before .before) .args .img .now) (bytes-of ((c .before .before .before .before .before .before .before .before .before .before .before .before .before .before .before .before .before .before .before .before .before .before .before) .args .img .now) (λ i. omega (arith, (c .before .before .before .before .before .before .before .before .before .before .before .before .before .before .before .before .before .before .before .before .before .before) .shared-slice-known .given i))) ((c .before .before .before .before .before .before .before .before .before .before .before .before .before .before .before .before .before) .functions-start .result) ((c .before .before .before .before .before .before .before .before .before .before .before .before .before .before .before .before .before) .functions-start .ensures .0) ((c .before .before .before .before .before .before .before .before .before .before .before .before .before .before .before .before .before) .functions-start .ensures .1) a) (sym ((c .before .before .before .before .before .before .before .before .before .before .before .before .before .before .before .before) .function-count .ensures a)) (own-counted (a .program .functions) ∙ sym ((c .before .before .before .before .before .before .before .before .before .before .before .before .before .before .before) .sentence-count .ensures a))) .0 in
-    (record { accepted = a; delivery = delivered a ((c .before .before .before .before .before) .clean-listed .ensures .0 (a .program) l) (sym (dispatch-is (a .program)) ∙ (sym ((c .before .before .before .before .before .before .before .before) .residual-dispatches-dynamically .ensures (sitesOf (a .program)) (sites-at l ((c .before .before .before .before .before .before .before .before .before) .calls-of .ensures)) (l .sites)) ∙ (c .before .before .before .before .before .before .before) .if1 .left)); few = (c .before .before .before .before .before) .clean-listed .ensures .1 .0 }, (c .before .before .before .before .before .before .before .before .before .before .before .before .before .before .before .before .before .before .before .before .before .before .before) .pre .1, (c .before .before .before .before .before) .clean-listed .ensures .1 .1 .0)
+    (record { accepted = a; delivery = delivered a ((c .before .before .before .before .before) .clean-listed .ensures .0 (a .program) l) (sym (dispatch-is (a .program)) ∙ (sym ((c .before .before .before .before .before .before .before .before) .residual-dispatches-dynamically .ensures (sitesOf (a .program)) (sites-at l ((c .before .before .before .before .before .before .before .before .before) .calls-of .ensures)) (l .sites)) ∙ (c .before .before .before .before .before .before .before) .if1 .left)); few = (c .before .before .before .before .before) .clean-listed .ensures .1 .0 }, (c .before .before .before .before .before .before .before .before .before .before .before .before .before .before .before .before .before .before .before .before .before .before .before) .pre .1)
 
 same-length-4 : tie.Need-same-length-4
 same-length-4 c = search needs
@@ -86,7 +86,7 @@ same-length-6 c = search needs
 returns-2 : tie.Need-returns-2
 returns-2 c = (
   λ a. let l = ((c .before .before .before .before .before .before .before .before .before .before .before .before .before .before .before .before .before .before .before .before) .list-program .ensures (a .program) (body-of ((c .before .before .before .before .before .before .before .before .before .before .before .before .before .before .before .before .before .before .before .before .before .before .before .before .before .before .before .before .before .before) .args .img .now) (bytes-of ((c .before .before .before .before .before .before .before .before .before .before .before .before .before .before .before .before .before .before .before .before .before .before .before .before .before .before .before .before .before .before) .args .img .now) (λ i. omega (arith, (c .before .before .before .before .before .before .before .before .before .before .before .before .before .before .before .before .before .before .before .before .before .before .before .before .before .before .before .before .before) .shared-slice-known .given i))) ((c .before .before .before .before .before .before .before .before .before .before .before .before .before .before .before .before .before .before .before .before .before .before .before .before) .functions-start .result) ((c .before .before .before .before .before .before .before .before .before .before .before .before .before .before .before .before .before .before .before .before .before .before .before .before) .functions-start .ensures .0) ((c .before .before .before .before .before .before .before .before .before .before .before .before .before .before .before .before .before .before .before .before .before .before .before .before) .functions-start .ensures .1) a) (sym ((c .before .before .before .before .before .before .before .before .before .before .before .before .before .before .before .before .before .before .before .before .before .before .before) .function-count .ensures a)) (own-counted (a .program .functions) ∙ sym ((c .before .before .before .before .before .before .before .before .before .before .before .before .before .before .before .before .before .before .before .before .before .before) .sentence-count .ensures a))) .0 in (c .before .before .before .before .before .before) .deliver .ensures .0 a (delivered a ((c .before .before .before .before .before .before .before .before .before .before .before .before) .clean-listed .ensures .0 (a .program) l) (sym (dispatch-is (a .program)) ∙ (sym ((c .before .before .before .before .before .before .before .before .before .before .before .before .before .before .before) .residual-dispatches-dynamically .ensures (sitesOf (a .program)) (sites-at l ((c .before .before .before .before .before .before .before .before .before .before .before .before .before .before .before .before) .calls-of .ensures)) (l .sites)) ∙ (c .before .before .before .before .before .before .before .before .before .before .before .before .before .before) .if1 .left))),
-  let a = (c .before .before .before .before .before .before .before .before .before .before .before .before .before .before .before .before .before .before .before .before .before .before .before .before .before .before .before .before .before .before) .pre .0 in (c .before .before .before .before .before .before) .deliver .ensures .1 ∙ ((c .before .before .before .before .before .before .before .before .before .before .before .before) .clean-listed .ensures .1 .1 .1 ∙ ((c .before .before .before .before .before .before .before .before .before .before .before .before .before .before .before .before .before .before .before .before) .list-program .ensures (a .program) (body-of ((c .before .before .before .before .before .before .before .before .before .before .before .before .before .before .before .before .before .before .before .before .before .before .before .before .before .before .before .before .before .before) .args .img .now) (bytes-of ((c .before .before .before .before .before .before .before .before .before .before .before .before .before .before .before .before .before .before .before .before .before .before .before .before .before .before .before .before .before .before) .args .img .now) (λ i. omega (arith, (c .before .before .before .before .before .before .before .before .before .before .before .before .before .before .before .before .before .before .before .before .before .before .before .before .before .before .before .before .before) .shared-slice-known .given i))) ((c .before .before .before .before .before .before .before .before .before .before .before .before .before .before .before .before .before .before .before .before .before .before .before .before) .functions-start .result) ((c .before .before .before .before .before .before .before .before .before .before .before .before .before .before .before .before .before .before .before .before .before .before .before .before) .functions-start .ensures .0) ((c .before .before .before .before .before .before .before .before .before .before .before .before .before .before .before .before .before .before .before .before .before .before .before .before) .functions-start .ensures .1) a) (sym ((c .before .before .before .before .before .before .before .before .before .before .before .before .before .before .before .before .before .before .before .before .before .before .before) .function-count .ensures a)) (own-counted (a .program .functions) ∙ sym ((c .before .before .before .before .before .before .before .before .before .before .before .before .before .before .before .before .before .before .before .before .before .before) .sentence-count .ensures a))) .1),
+  let a = (c .before .before .before .before .before .before .before .before .before .before .before .before .before .before .before .before .before .before .before .before .before .before .before .before .before .before .before .before .before .before) .pre .0 in (c .before .before .before .before .before .before) .deliver .ensures .1 ∙ ((c .before .before .before .before .before .before .before .before .before .before .before .before) .clean-listed .ensures .1 .1 ∙ ((c .before .before .before .before .before .before .before .before .before .before .before .before .before .before .before .before .before .before .before .before) .list-program .ensures (a .program) (body-of ((c .before .before .before .before .before .before .before .before .before .before .before .before .before .before .before .before .before .before .before .before .before .before .before .before .before .before .before .before .before .before) .args .img .now) (bytes-of ((c .before .before .before .before .before .before .before .before .before .before .before .before .before .before .before .before .before .before .before .before .before .before .before .before .before .before .before .before .before .before) .args .img .now) (λ i. omega (arith, (c .before .before .before .before .before .before .before .before .before .before .before .before .before .before .before .before .before .before .before .before .before .before .before .before .before .before .before .before .before) .shared-slice-known .given i))) ((c .before .before .before .before .before .before .before .before .before .before .before .before .before .before .before .before .before .before .before .before .before .before .before .before) .functions-start .result) ((c .before .before .before .before .before .before .before .before .before .before .before .before .before .before .before .before .before .before .before .before .before .before .before .before) .functions-start .ensures .0) ((c .before .before .before .before .before .before .before .before .before .before .before .before .before .before .before .before .before .before .before .before .before .before .before .before) .functions-start .ensures .1) a) (sym ((c .before .before .before .before .before .before .before .before .before .before .before .before .before .before .before .before .before .before .before .before .before .before .before) .function-count .ensures a)) (own-counted (a .program .functions) ∙ sym ((c .before .before .before .before .before .before .before .before .before .before .before .before .before .before .before .before .before .before .before .before .before .before) .sentence-count .ensures a))) .1),
 )
 
 pub clean-in-spec : {M : Type 1} → statement M

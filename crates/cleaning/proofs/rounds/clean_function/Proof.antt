@@ -11,7 +11,7 @@ use Rattle.index.proofs.First.{Element, element-at}
 use Rattle.cleaning.specs.Indexed.{Indexed, SomeBody}
 use Rattle.cleaning.specs.RoundDone.{RoundReady, RoundAt}
 use Rattle.cleaning.proofs.Owned.{before-later}
-use Rattle.cleaning.proofs.RoundCode.{dropped-remembers, indexed-at, witnessed-at, end-at, skip-root, skip-passed, judged-none, judged-one}
+use Rattle.cleaning.proofs.RoundCode.{indexed-at, witnessed-at, end-at, skip-root, skip-passed, judged-none, judged-one}
 use borrow.Author.Needs.{needs}
 use Rattle.cleaning.proofs.rounds.clean_function.Statement.{statement}
 use Rattle.cleaning.proofs.rounds.clean_function.Tie as tie
@@ -42,7 +42,7 @@ end-is c w d =
     c .first-sentence2 .ensures (c .before .before .before .before .before .before .before .before .before .before .args .b .now) w d ∙ ap (λ (k : ℕ). sentencesBefore k (w .functions)) e
 
 returns : tie.Need-returns
-returns c = (λ w old r a. let x = function-at (c .before .before .before) w old r in skip-root r a (x .element) (x .is) (c .if1 .taken), c .before .before .before .pre .3)
+returns c w old r a = let x = function-at (c .before .before .before) w old r in skip-root r a (x .element) (x .is) (c .if1 .taken)
 
 is-judged-requires : tie.Need-is-judged-requires
 is-judged-requires c κs = (body (c .before .before .before .before), c .before .before .before .before .pre .1)
@@ -51,13 +51,10 @@ same-length : tie.Need-same-length
 same-length c = search needs
 
 returns-2 : tie.Need-returns-2
-returns-2 c = (
-  λ w old r a.
-      let x = function-at (c .before .before .before .before .before .before) w old r in
-      let g = c .before .is-judged in
-      skip-passed r a (x .element) (x .is) (sym (g .ensures ((c .before .before .before .before .before .before) .args .b .now) w (x .element) (indexed-at r a) (x .is)) ∙ not-true (g .result) (c .if2 .taken)),
-  (c .before .before .before .before .before .before) .pre .3,
-)
+returns-2 c w old r a =
+    let x = function-at (c .before .before .before .before .before .before) w old r in
+    let g = c .before .is-judged in
+    skip-passed r a (x .element) (x .is) (sym (g .ensures ((c .before .before .before .before .before .before) .args .b .now) w (x .element) (indexed-at r a) (x .is)) ∙ not-true (g .result) (c .if2 .taken))
 
 first-sentence-requires : tie.Need-first-sentence-requires
 first-sentence-requires c κs = (body (c .before .before .before .before .before .before .before), omega (arith, c .before .before .before .before .before .before .before .pre .1))
@@ -83,24 +80,20 @@ judge-requires c κs =
         upto = end-is (c .before) (p .program) (indexed-now s);
       },
       s .pre .2,
-      s .pre .3,
     )
 
 same-length-2 : tie.Need-same-length-2
-same-length-2 c = c .before .before .before .judge .ensures .1 .0 .length
+same-length-2 c = c .before .before .before .judge .ensures .1 .length
 
 returns-3 : tie.Need-returns-3
-returns-3 c = (
-  λ w old r a.
-      let x = function-at (c .before .before .before .before .before .before .before .before .before .before .before .before .before .before .before) w old r in
-      let d = indexed-at r a in
-      let g = (c .before .before .before .before .before .before .before .before .before .before) .is-judged in
-      let j = (c .before .before .before) .judge in
-      judged-none r a (x .element) (x .is) ((c .before .before .before .before .before .before .before .before .before .before .before .before) .if1 .left) (sym (g .ensures ((c .before .before .before .before .before .before .before .before .before .before .before .before .before .before .before) .args .b .now) w (x .element) d (x .is)) ∙ not-false (g .result) ((c .before .before .before .before .before .before .before .before .before) .if2 .left))
-      (first-is (c .before .before .before .before .before .before .before) w d) (end-is (c .before .before .before .before .before) w d) (j .ensures .1 .0)
-      (j .ensures .0 w (x .element) d (x .is) (witnessed-at r a) (first-is (c .before .before .before .before .before .before .before) w d) (end-is (c .before .before .before .before .before) w d)) (not-true (j .result) (c .if3 .taken)),
-  (c .before .before .before) .judge .ensures .1 .1,
-)
+returns-3 c w old r a =
+    let x = function-at (c .before .before .before .before .before .before .before .before .before .before .before .before .before .before .before) w old r in
+    let d = indexed-at r a in
+    let g = (c .before .before .before .before .before .before .before .before .before .before) .is-judged in
+    let j = (c .before .before .before) .judge in
+    judged-none r a (x .element) (x .is) ((c .before .before .before .before .before .before .before .before .before .before .before .before) .if1 .left) (sym (g .ensures ((c .before .before .before .before .before .before .before .before .before .before .before .before .before .before .before) .args .b .now) w (x .element) d (x .is)) ∙ not-false (g .result) ((c .before .before .before .before .before .before .before .before .before) .if2 .left))
+    (first-is (c .before .before .before .before .before .before .before) w d) (end-is (c .before .before .before .before .before) w d) (j .ensures .1)
+    (j .ensures .0 w (x .element) d (x .is) (witnessed-at r a) (first-is (c .before .before .before .before .before .before .before) w d) (end-is (c .before .before .before .before .before) w d)) (not-true (j .result) (c .if3 .taken))
 
 drop-rejected-requires : tie.Need-drop-rejected-requires
 drop-rejected-requires c κs =
@@ -108,7 +101,7 @@ drop-rejected-requires c κs =
     let d = indexed-now (c .before .before .before .before .before .before .before .before .before .before .before .before .before .before .before .before) in
     let e = first-is (c .before .before .before .before .before .before .before .before) (p .program) d in
     let g = end-is (c .before .before .before .before .before .before) (p .program) d in
-    let l = c .before .before .before .before .judge .ensures .1 .0 .length in (
+    let l = c .before .before .before .before .judge .ensures .1 .length in (
       omega (arith, e, g, before-later (p .program .functions) (c .before .before .before .before .before .before .before .before .before .before .before .before .before .before .before .before .args .f) (suc (c .before .before .before .before .before .before .before .before .before .before .before .before .before .before .before .before .args .f)) (omega arith)),
       omega (arith, g, end-at (p .ready) (p .at)),
       omega (arith, l, d .fits),
@@ -118,22 +111,17 @@ drop-rejected-requires c κs =
     )
 
 same-length-3 : tie.Need-same-length-3
-same-length-3 c = c .before .before .drop-rejected .ensures .others .length ∙ c .before .before .before .before .before .before .before .judge .ensures .1 .0 .length
+same-length-3 c = c .before .before .drop-rejected .ensures .others .length ∙ c .before .before .before .before .before .before .before .judge .ensures .1 .length
 
 returns-4 : tie.Need-returns-4
-returns-4 c = (
-  λ w old r a.
-      let x = function-at (c .before .before .before .before .before .before .before .before .before .before .before .before .before .before .before .before .before .before .before) w old r in
-      let d = indexed-at r a in
-      let g = (c .before .before .before .before .before .before .before .before .before .before .before .before .before .before) .is-judged in
-      let j = (c .before .before .before .before .before .before .before) .judge in
-      judged-one r a (x .element) (x .is) ((c .before .before .before .before .before .before .before .before .before .before .before .before .before .before .before .before) .if1 .left) (sym (g .ensures ((c .before .before .before .before .before .before .before .before .before .before .before .before .before .before .before .before .before .before .before) .args .b .now) w (x .element) d (x .is)) ∙ not-false (g .result) ((c .before .before .before .before .before .before .before .before .before .before .before .before .before) .if2 .left))
-      (first-is (c .before .before .before .before .before .before .before .before .before .before .before) w d) (end-is (c .before .before .before .before .before .before .before .before .before) w d) (j .ensures .1 .0)
-      (j .ensures .0 w (x .element) d (x .is) (witnessed-at r a) (first-is (c .before .before .before .before .before .before .before .before .before .before .before) w d) (end-is (c .before .before .before .before .before .before .before .before .before) w d)) (not-false (j .result) ((c .before .before .before .before) .if3 .left)) ((c .before .before) .drop-rejected .ensures),
-  let p = (c .before .before .before .before .before .before .before .before .before .before .before .before .before .before .before .before .before .before .before) .pre .0 in
-      let g = end-is (c .before .before .before .before .before .before .before .before .before) (p .program) (indexed-now (c .before .before .before .before .before .before .before .before .before .before .before .before .before .before .before .before .before .before .before)) in
-      dropped-remembers (omega (arith, g, end-at (p .ready) (p .at))) ((c .before .before) .drop-rejected .ensures) ((c .before .before .before .before .before .before .before .before .before .before .before .before .before .before .before .before .before .before .before) .args .b .now) ((c .before .before .before .before .before .before .before) .judge .ensures .1 .1),
-)
+returns-4 c w old r a =
+    let x = function-at (c .before .before .before .before .before .before .before .before .before .before .before .before .before .before .before .before .before .before .before) w old r in
+    let d = indexed-at r a in
+    let g = (c .before .before .before .before .before .before .before .before .before .before .before .before .before .before) .is-judged in
+    let j = (c .before .before .before .before .before .before .before) .judge in
+    judged-one r a (x .element) (x .is) ((c .before .before .before .before .before .before .before .before .before .before .before .before .before .before .before .before) .if1 .left) (sym (g .ensures ((c .before .before .before .before .before .before .before .before .before .before .before .before .before .before .before .before .before .before .before) .args .b .now) w (x .element) d (x .is)) ∙ not-false (g .result) ((c .before .before .before .before .before .before .before .before .before .before .before .before .before) .if2 .left))
+    (first-is (c .before .before .before .before .before .before .before .before .before .before .before) w d) (end-is (c .before .before .before .before .before .before .before .before .before) w d) (j .ensures .1)
+    (j .ensures .0 w (x .element) d (x .is) (witnessed-at r a) (first-is (c .before .before .before .before .before .before .before .before .before .before .before) w d) (end-is (c .before .before .before .before .before .before .before .before .before) w d)) (not-false (j .result) ((c .before .before .before .before) .if3 .left)) ((c .before .before) .drop-rejected .ensures)
 
 pub clean-function-spec : {M : Type 1} → statement M
 clean-function-spec =

@@ -12,7 +12,6 @@ use Rattle.index.specs.Layout.{witnesses}
 use Rattle.told.specs.Numbered.{sentencesBefore}
 use Rattle.told.specs.History.{isThere}
 use Rattle.cleaning.specs.Indexed.{Indexed, fellOf}
-use Rattle.cleaning.specs.Room.{Remembering}
 use Rattle.cleaning.specs.Walks.{ColumnsApart, Witnessed}
 use Rattle.cleaning.specs.RoundDone.{JudgedUpto}
 use Rattle.cleaning.proofs.Judging.{judged-start, end-within, apart-next, judge-asks, judge-steps}
@@ -26,7 +25,7 @@ Judging b old new p f first end round s met = (w : Program) (x : Function) → I
     → Witnessed (isThere (fellOf p old) round) w new p × JudgedUpto w (isThere (fellOf p old) round) new p f x s met
 
 abbrev Inv-loop : tie.InvT-loop
-Inv-loop b work₀ plan f first end round s₀ met₀ work s met = ColumnsApart plan work₀ work (witnesses plan + first) (witnesses plan + s) × (first ≤ s) × (s ≤ end) × Judging b work₀ work plan f first end round s met × Remembering b plan work
+Inv-loop b work₀ plan f first end round s₀ met₀ work s met = ColumnsApart plan work₀ work (witnesses plan + first) (witnesses plan + s) × (first ≤ s) × (s ≤ end) × Judging b work₀ work plan f first end round s met
 
 abbrev μ-loop : tie.MeasureT-loop
 μ-loop b work₀ plan f first end round s₀ met₀ work s met = end - s
@@ -39,7 +38,6 @@ loop-holds c =
       omega arith,
       omega (arith, p .from, p .upto, before-later (p .program .functions) (a .f) (suc (a .f)) (omega arith)),
       λ w x d is h begin stop. (h, subst (λ (n : ℕ). JudgedUpto w (isThere (fellOf (a .plan) (a .work .now)) (a .round)) (a .work .now) (a .plan) (a .f) x n false) (sym begin) (judged-start w (isThere (fellOf (a .plan) (a .work .now)) (a .round)) (a .plan) (a .f) x (a .work .now))),
-      c .before .before .pre .2,
     )
 
 judge-sentence-requires : tie.Need-judge-sentence-requires Inv-loop μ-loop
@@ -50,7 +48,6 @@ judge-sentence-requires c κs =
       judge-asks (a .b .now) (a .work .now) (a .plan) (a .f) (a .first) (a .end) (a .round) (p .function) (h .s) (p .indexed) (p .is) (p .from) (p .upto) (h .inv .0) (h .inv .1) (c .before .loop-test .taken)
           (h .inv .3 (p .program) (p .function) (p .indexed) (p .is) (p .witnessed) (p .from) (p .upto) .0),
       c .before .before .before .before .before .pre .1,
-      h .inv .4,
     )
 
 add-s : tie.Need-add-s Inv-loop μ-loop
@@ -68,11 +65,10 @@ loop-again c =
     let h = c .before .before .before .before .before .loop in
     let g = c .before .before .judge-sentence in
     let t = c .before .before .before .before .loop-test .taken in (
-      apart-next (a .b .now) (a .work .now) (a .plan) (a .f) (a .first) (a .end) (a .round) (h .inv .1) (h .inv .0) (g .ensures .1 .0),
+      apart-next (a .b .now) (a .work .now) (a .plan) (a .f) (a .first) (a .end) (a .round) (h .inv .1) (h .inv .0) (g .ensures .1),
       omega (arith, h .inv .1),
       omega (arith, t),
-      λ w x d is q begin stop. judge-steps (a .b .now) (a .work .now) (a .plan) (a .f) (a .first) (a .end) (a .round) x (h .s) d is begin stop (h .inv .0) (h .inv .1) t (g .last .1 .0) (h .met) (g .result) (g .ensures .0) (g .ensures .1 .0) (h .inv .3 w x d is q begin stop),
-      g .ensures .1 .1,
+      λ w x d is q begin stop. judge-steps (a .b .now) (a .work .now) (a .plan) (a .f) (a .first) (a .end) (a .round) x (h .s) d is begin stop (h .inv .0) (h .inv .1) t (g .last .1 .0) (h .met) (g .result) (g .ensures .0) (g .ensures .1) (h .inv .3 w x d is q begin stop),
     )
 
 same-length : tie.Need-same-length Inv-loop μ-loop
@@ -84,7 +80,7 @@ returns c =
     let h = c .before .loop in
     let e : h .s ≡ a .end = omega (arith, c .loop-test .left, h .inv .2) in (
       subst (λ (n : ℕ). Judging (a .b .now) (a .work .now) (h .work) (a .plan) (a .f) (a .first) (a .end) (a .round) n (h .met)) e (h .inv .3),
-      (subst (λ (n : ℕ). ColumnsApart (a .plan) (a .work .now) (h .work) (witnesses (a .plan) + a .first) (witnesses (a .plan) + n)) e (h .inv .0), h .inv .4),
+      subst (λ (n : ℕ). ColumnsApart (a .plan) (a .work .now) (h .work) (witnesses (a .plan) + a .first) (witnesses (a .plan) + n)) e (h .inv .0),
     )
 
 pub judge-spec : {M : Type 1} → statement M

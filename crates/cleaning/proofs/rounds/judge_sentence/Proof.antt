@@ -29,7 +29,7 @@ still-met-requires : tie.Need-still-met-requires
 still-met-requires c κs = c .before .before .before .before .before .before .pre
 
 same-length : tie.Need-same-length
-same-length c = c .before .before .before .still-met .ensures .1 .0 .length
+same-length c = c .before .before .before .still-met .ensures .1 .length
 
 returns : tie.Need-returns
 returns c =
@@ -40,7 +40,7 @@ returns c =
     )
 
 same-length-2 : tie.Need-same-length-2
-same-length-2 c = c .before .before .before .still-met .ensures .1 .0 .length
+same-length-2 c = c .before .before .before .still-met .ensures .1 .length
 
 returns-2 : tie.Need-returns-2
 returns-2 c =
@@ -57,7 +57,7 @@ returns-3 : tie.Need-returns-3
 returns-3 c =
     let a = c .before .before .before .before .before .args in (
       λ w x y d o q. judged-gone w (keep (c .before .before .before .before .before)) (a .work .now) (a .plan) x (a .s) y (a .before) (sym (c .before .is-there .ensures) ∙ c .if1 .left) q,
-      (no-column (a .plan) (a .work .now) (witnesses (a .plan) + a .s), c .before .before .before .before .before .pre .2),
+      no-column (a .plan) (a .work .now) (witnesses (a .plan) + a .s),
     )
 
 pub judge-sentence-spec : {M : Type 1} → statement M

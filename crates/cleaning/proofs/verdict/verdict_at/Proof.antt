@@ -15,7 +15,7 @@ use Rattle.index.specs.Lists.{ListAt, Among}
 use Rattle.index.proofs.Alike.{call-of, reading-of}
 use Rattle.cleaning.specs.Indexed.{Indexed}
 use Rattle.cleaning.proofs.Meeting.{list-at, site-below, from-part, verdict-is}
-use Rattle.cleaning.proofs.Room.{part-lent, used-from-part}
+use Rattle.cleaning.proofs.Room.{used-from-part}
 use borrow.Author.Needs.{needs}
 use Rattle.cleaning.proofs.verdict.verdict_at.Statement.{statement}
 use Rattle.cleaning.proofs.verdict.verdict_at.Tie as tie
@@ -55,12 +55,6 @@ site-argument-requires c κs =
 room-of-requires : tie.Need-room-of-requires
 room-of-requires c κs = search needs
 
-sub-lent-for : tie.Need-sub-lent-for
-sub-lent-for c = search needs
-
-lent-for-requires : tie.Need-lent-for-requires
-lent-for-requires c κs = search needs
-
 mul-patterns-verdict : tie.Need-mul-patterns-verdict
 mul-patterns-verdict c = search needs
 
@@ -75,13 +69,11 @@ part-patterns-verdict-end c = search needs
 
 patterns-verdict-requires : tie.Need-patterns-verdict-requires
 patterns-verdict-requires c κs =
-    let s = c .before .before .before .before .before .before .before .before in
-    let a = s .pre .0 in
-    let n = c .before .before .room-of in (
+    let s = (c .before .before .before .before .before .before .before) in
+    let a = s .pre .0 in (
       a .reading,
-      argument (c .before .before .before) (a .program) (a .place) (a .function) (a .site) (a .indexed) (a .is) (record { is = a .at; listed = a .listed }),
+      argument (c .before .before) (a .program) (a .place) (a .function) (a .site) (a .indexed) (a .is) (record { is = a .at; listed = a .listed }),
       s .pre .1,
-      part-lent (s .args .b .now) (s .args .plan) (s .args .work .now) (n .result) (c .before .lent-for .result) (n .ensures) (a .indexed .fits) (c .before .lent-for .ensures) (s .pre .2),
     )
 
 same-length : tie.Need-same-length
@@ -89,12 +81,11 @@ same-length c = search needs
 
 returns : tie.Need-returns
 returns c =
-    let s = c .before .before .before .before .before .before .before .before .before .before .before in
-    let n = c .before .before .before .before .before .room-of in
-    let l = c .before .before .before .before .lent-for in
-    let o = c .before .before .patterns-verdict in (
-      λ w f x y d e g i t. (o .ensures .0 t (argument (c .before .before .before .before .before .before) w f x y d e (record { is = g; listed = i }))),
-      used-from-part (s .args .b .now) (s .args .plan) (s .args .work .now) (n .result) (l .result) (n .ensures) (s .pre .0 .indexed .fits) (l .ensures) (o .last .1 .1 .1 .0) (o .ensures .1),
+    let s = (c .before .before .before .before .before .before .before .before .before .before) in
+    let n = (c .before .before .before .before) .room-of in
+    let o = (c .before .before) .patterns-verdict in (
+      λ w f x y d e g i t. (o .ensures .0 t (argument (c .before .before .before .before .before) w f x y d e (record { is = g; listed = i }))),
+      used-from-part (s .args .plan) (s .args .work .now) (n .result) (n .ensures) (s .pre .0 .indexed .fits) (o .last .1 .1 .1 .0) (o .ensures .1),
     )
 
 pub verdict-at-spec : {M : Type 1} → statement M
@@ -107,8 +98,6 @@ verdict-at-spec =
     slice-read-site-argument
     site-argument-requires
     room-of-requires
-    sub-lent-for
-    lent-for-requires
     mul-patterns-verdict
     sub-patterns-verdict
     part-patterns-verdict-start

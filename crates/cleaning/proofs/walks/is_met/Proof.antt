@@ -38,7 +38,7 @@ returns : tie.Need-returns
 returns c =
     let s = (c .before .before .before .before .before) in (
       λ w f x y d e g l t. met-gone d f x e (keep s) (t .terms) (s .args .i) y g l (sym ((c .before) .site-there .ensures) ∙ not-is ((c .before) .site-there .result) true (c .if1 .taken)),
-      used-same (s .pre .2),
+      used-same,
     )
 
 links-of-requires : tie.Need-links-of-requires
@@ -62,7 +62,7 @@ returns-2 : tie.Need-returns-2
 returns-2 c =
     let s = (c .before .before .before .before .before .before .before .before .before .before .before .before) in (
       λ w f x y d e g l t. met-repeat d f x e (keep s) (t .terms) (s .args .i) y g l ((c .before .before .before .before) .class-of .result) (class-is (c .before .before .before .before)) ((c .before .before .before) .if2 .taken) (sym ((c .before) .site-there2 .ensures) ∙ c .if3 .taken),
-      used-same (s .pre .2),
+      used-same,
     )
 
 verdict-at-requires : tie.Need-verdict-at-requires

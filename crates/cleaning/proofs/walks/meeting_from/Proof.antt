@@ -25,7 +25,7 @@ use Rattle.cleaning.proofs.walks.meeting_from.Tie as tie
 
 -- The columns are as they were, the walk stays on the list, and nothing before it meets the pattern.
 abbrev Inv-loop : tie.InvT-loop
-Inv-loop b work₀ plan pattern i round links j₀ work j = Used b plan work₀ work
+Inv-loop b work₀ plan pattern i round links j₀ work j = Used plan work₀ work
     × ((w : Program) (f : ℕ) (x : Function) → Indexed b w work₀ plan → getElem? (w .functions) f ≡ some x → OnList (x .name) (sitesOf w) i
     → OnList (x .name) (sitesOf w) j
     × ((t : TermsAt Mode.pattern (drop pattern b)) → NoneMet (isThere (fellOf plan work₀) round) (x .name) (t .terms) (sitesOf w) i
@@ -42,7 +42,7 @@ abbrev given : (h : tie.At-loop Inv-loop μ-loop) → let s = h .before .before 
 given h = let p = h .before .before .before .before .pre .0 in h .loop .inv .1 (p .program) (p .place) (p .function) (p .indexed) (p .is) (p .listed) .0
 
 -- The columns after a verdict has been asked.
-used-after : (c : tie.After-is-met Inv-loop μ-loop) → let a = (c .before .before .before .before .before .before .before .before) .args in Used (a .b .now) (a .plan) (a .work .now) (c .is-met .last .1 .0)
+used-after : (c : tie.After-is-met Inv-loop μ-loop) → let a = (c .before .before .before .before .before .before .before .before) .args in Used (a .plan) (a .work .now) (c .is-met .last .1 .0)
 used-after c = used-then ((c .before .before .before .before) .loop .inv .0) (c .is-met .ensures .1)
 
 next-is : (c : tie.After-next-site Inv-loop μ-loop) → let a = (c .before .before .before .before .before .before .before .before .before .before .before .before .before) .args in c .next-site .result ≡ entryNext (getD (a .work .now) (links (a .plan) + (c .before .before .before .before .before .before .before .before .before) .loop .j) 0)
@@ -72,7 +72,7 @@ links-of-requires c κs = let d = (c .before .before) .pre .0 .indexed in (omega
 
 loop-holds : tie.Need-loop-holds Inv-loop μ-loop
 loop-holds c = (
-  used-same ((c .before .before .before) .pre .2),
+  used-same,
   λ w f x d e o. (o, λ t none. met-start (keep (c .before .before .before)) (x .name) (t .terms) (sitesOf w) ((c .before .before .before) .args .i) o none),
 )
 
@@ -96,7 +96,6 @@ is-met-requires c κs =
         reading = p .reading;
       },
       s .pre .1,
-      l .inv .0 .remembers,
     )
 
 same-length : tie.Need-same-length Inv-loop μ-loop

@@ -25,7 +25,7 @@ use Rattle.index.specs.declared.Plan.{Plan}
 use Rattle.cleaning.specs.Room.{Used}
 use Rattle.cleaning.specs.Walks.{OnList, NoneMet, Owns, WitnessOf, witnessFrom, StillMet, OneColumn}
 use Rattle.cleaning.proofs.Meeting.{number-is, site-element, sentence-below}
-use Rattle.cleaning.proofs.Room.{used-same, remembering-set, one-column, no-column}
+use Rattle.cleaning.proofs.Room.{used-same, one-column, no-column}
 use Rattle.cleaning.proofs.Witnesses.{pattern-there, begins-at, none-left, witness-there, still-by}
 use borrow.Author.Needs.{needs}
 use Rattle.cleaning.proofs.walks.still_met.Statement.{statement}
@@ -35,7 +35,7 @@ use Rattle.cleaning.proofs.walks.still_met.Tie as tie
 put-there : {k q : ℕ} → k ≡ q → (m : List ℕ) (v : ℕ) → k < length m → getD (set m k v) q 0 ≡ v
 put-there {k} e m v h = ap (λ (j : ℕ). getD (set m k v) j 0) (sym e) ∙ getD-set-same m k v 0 h
 
-put-column : {k q : ℕ} → k ≡ q → {b : List ℕ} {p : Plan} {m n : List ℕ} → Used b p m n → (v : ℕ) → OneColumn p m (set n k v) q
+put-column : {k q : ℕ} → k ≡ q → {p : Plan} {m n : List ℕ} → Used p m n → (v : ℕ) → OneColumn p m (set n k v) q
 put-column {k} e {p} {m} {n} u v = subst (OneColumn p m (set n k v)) e (one-column u k v)
 
 abbrev keep : tie.Start → ℕ → Bool
@@ -65,10 +65,6 @@ function-below s = let p = s .pre .0 in omega (arith, element-below (p .program 
 
 witness-within : (s : tie.Start) → (witnesses (s .args .plan) + s .args .s < length (s .args .work .now)) × (length (s .args .work .now) ≤ 8192)
 witness-within s = let d = s .pre .0 .indexed in (omega (arith, d .fits, own-below s), d .small)
-
--- The witness stands in a column.
-witness-column : (s : tie.Start) → witnesses (s .args .plan) + s .args .s < room (s .args .plan)
-witness-column s = omega (arith, own-below s)
 
 -- The entry that is written is the witness.
 written : (c : tie.After-witnesses-of) → let a = c .before .before .before .args in c .witnesses-of .result + a .s ≡ witnesses (a .plan) + a .s
@@ -141,7 +137,7 @@ returns c =
           let z : n + 1 ≡ suc i = omega (arith, h, g .0 .within, d .sites) in
           still-by (keep s) (x .name) (y .pattern) (sitesOf w) i (none-left (keep s) (x .name) (y .pattern) (sitesOf w) i (g .0) (g .1) h)
           (getD (set (s .args .work .now) k (n + 1)) (witnesses (s .args .plan) + s .args .s) 0) (put-there (written v) (s .args .work .now) (n + 1) (written-within v .0) ∙ z) false (sym (le-ltb i (length (sitesOf w)) h)),
-      (put-column (written v) (used-same (s .pre .2)) (n + 1), remembering-set (s .args .b .now) (s .args .plan) (s .args .work .now) k (n + 1) (omega (arith, written v, witness-column s)) (s .pre .2)),
+      put-column (written v) used-same (n + 1),
     )
 
 mul-if2 : tie.Need-mul-if2
@@ -172,7 +168,7 @@ returns-2 c =
           let g = witness-there (keep s) (x .name) (y .pattern) (sitesOf w) (witness s) (head s) (λ z. (c .before .before .before) .if2 .taken (ap (λ (j : ℕ). getD (s .args .work .now) j 0) (written (c .before .before .before .before .before .before .before .before .before)) ∙ z)) a (u .element) (ap (getElem? (sitesOf w)) (sym e) ∙ u .is) k in
           still-by (keep s) (x .name) (y .pattern) (sitesOf w) (witnessFrom (witness s) (head s)) (g .0) (witness s) (g .1) true
           (sym (lt-ltb (witnessFrom (witness s) (head s)) (length (sitesOf w)) (omega (arith, e, h, d .sites)))),
-      (no-column (s .args .plan) (s .args .work .now) (witnesses (s .args .plan) + s .args .s), s .pre .2),
+      no-column (s .args .plan) (s .args .work .now) (witnesses (s .args .plan) + s .args .s),
     )
 
 pattern-place-requires : tie.Need-pattern-place-requires
@@ -192,7 +188,6 @@ meeting-from-requires c κs =
         reading = pattern (c .before) (p .program) (p .function) (p .sentence) (p .indexed) (p .owns);
       },
       s .pre .1,
-      s .pre .2,
     )
 
 cast-work-2 : tie.Need-cast-work-2
@@ -223,7 +218,7 @@ returns-3 c =
           let z : n + 1 ≡ suc n = omega arith in
           still-by (keep s) (x .name) (y .pattern) (sitesOf w) n (found (c .before .before .before) w x y d o a)
           (getD (set (g .last .1 .0) k (n + 1)) (witnesses (s .args .plan) + s .args .s) 0) (put-there (written v) (g .last .1 .0) (n + 1) (after-within (c .before .before .before)) ∙ z) (ltb n (s .args .plan .sites)) (ap (ltb n) (sym (d .sites))),
-      (put-column (written v) (g .ensures .1) (n + 1), remembering-set (s .args .b .now) (s .args .plan) (g .last .1 .0) k (n + 1) (omega (arith, written v, witness-column s)) (g .ensures .1 .remembers)),
+      put-column (written v) (g .ensures .1) (n + 1),
     )
 
 pub still-met-spec : {M : Type 1} → statement M

@@ -6,7 +6,7 @@ use lib.ListN.{length}
 use Rattle.program.specs.Limits.{Mode}
 use Rattle.image.specs.Parts.{TermsAt}
 use Rattle.image.proofs.Readings.{result-at}
-use Rattle.overlap.proofs.Readings.{first-at, pattern-room, next-fits}
+use Rattle.rows.proofs.Readings.{first-at, pattern-room, next-fits}
 use Rattle.overlap.proofs.Turns.{Leaving, leftover-next, leftover-all, leftover-some}
 use Rattle.overlap.proofs.terms.leftover_overlap.Statement.{statement}
 use Rattle.overlap.proofs.terms.leftover_overlap.Tie as tie

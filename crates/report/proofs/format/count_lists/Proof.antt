@@ -31,7 +31,7 @@ put-uncovered-requires : tie.Need-put-uncovered-requires
 put-uncovered-requires c κs =
     let p = c .before .before .before .before .before .before .before .before .before .before .before .before .before .before .before .before .before .before .before .before .before .before .pre .0 in
     let u = c .before .before .before .before .before .before .put-undecided .ensures .1 .1 .1 in
-    (used-some u (record { program = p .program; readable = p .removing .readable }), omega arith, u .remembers)
+    (used-some u (record { program = p .program; readable = p .removing .readable }), omega arith)
 
 same-length : tie.Need-same-length
 same-length c = c .before .before .before .before .put-uncovered .ensures .1 .1 .1 .length ∙ c .before .before .before .before .before .before .before .before .before .before .before .put-undecided .ensures .1 .1 .1 .length

@@ -48,7 +48,7 @@ use Rattle.index.proofs.Plan.Laws as P′
 use Rattle.meaning.specs.Text.{Text}
 use Rattle.meaning.specs.Root.{rootPlace}
 use Rattle.cleaning.specs.Indexed.{fellOf}
-use Rattle.cleaning.specs.Room.{Remembering, Used}
+use Rattle.cleaning.specs.Room.{Used}
 use Rattle.told.specs.ToldReport.{toldReport}
 use Rattle.text.specs.declared.writer.Writer.{Writer}
 use Rattle.text.specs.Counts.{topText, graphText}
@@ -110,7 +110,7 @@ fits n few = omega (arith, few)
 
 module _ (y m : RefT (List ℕ)) (p : Plan) (root rounds : ℕ) (g : Figures) where
   abbrev Asked : Type 0
-  Asked = SomeReporting (y .now) (m .now) p rounds g × (rounds < 4096) × Remembering (y .now) p (m .now)
+  Asked = SomeReporting (y .now) (m .now) p rounds g × (rounds < 4096)
 
   -- the texts that are written, the second as the rounds of w tell it
   abbrev top : Text
@@ -232,7 +232,7 @@ module _ {M : Type 1} (𝓤 : URA M) (H : Heap 𝓤) (A : Atoms 𝓤) (W : Given
 
   goes-lists : (v : Val) → h₁ .filled ≤ 1000 → ent 𝓤 (sep 𝓤 (sep 𝓤 (A .lft κ q) (sep 𝓤 (A .lft κ₀ q₀) (A .lft κ₁ q₁))) (sep 𝓤 (sem 𝓤 H A (T.the-row α .own h₁ (v ∷ []))) (sem 𝓤 H A Six))) (WithLists 𝓤 H A mem run .pre (to-lists v))
   goes-lists v short =
-      qed W ((‵ (flft κ q) ⊛ (‵ (flft κ₀ q₀) ⊛ ‵ (flft κ₁ q₁))) ∷ ‵ (T.the-row α .own h₁ (v ∷ [])) ∷ ‵ Six ∷ []) ∵ says ! (asked .0, asked .1, short, asked .2) $ use1 W (‵ (flft κ₀ q₀) ⊛ (‵ (flft κ₁ q₁) ⊛ (‵ (flft κ q) ⊛ ‵ ftrue))) (tokens-in 𝓤 H A W κ₀ κ₁ κ q₀ q₁ q) $ frame ! $
+      qed W ((‵ (flft κ q) ⊛ (‵ (flft κ₀ q₀) ⊛ ‵ (flft κ₁ q₁))) ∷ ‵ (T.the-row α .own h₁ (v ∷ [])) ∷ ‵ Six ∷ []) ∵ says ! (asked .0, asked .1, short) $ use1 W (‵ (flft κ₀ q₀) ⊛ (‵ (flft κ₁ q₁) ⊛ (‵ (flft κ q) ⊛ ‵ ftrue))) (tokens-in 𝓤 H A W κ₀ κ₁ κ q₀ q₁ q) $ frame ! $
       nothing ! $ move ! (1 ∷ 0 ∷ []) $ fjoin ! $ move ! (1 ∷ 0 ∷ []) $ by ! (last-in 𝓤 H A W (ShrSlice (named 0) κ₀ u8 .own y (bv ∷ [])) (MutSlice (named 1) κ₁ u32 .own m (mv ∷ [])) (P.the-row .own p (pv ∷ [])) (usize .own root (vint w64 root ∷ [])) (usize .own rounds (vint w64 rounds ∷ [])) (G.the-row .own g (gv ∷ [])) (fsep (T.the-row α .own h₁ (v ∷ [])) ftrue))
 
   abbrev to-graph : Val → WithGraph 𝓤 H A mem run .Ghost
@@ -246,7 +246,7 @@ module _ {M : Type 1} (𝓤 : URA M) (H : Heap 𝓤) (A : Atoms 𝓤) (W : Given
 
   -- what `with_lists` ensures, of the entries ms that it leaves; by the first part it does not matter which program is told
   abbrev Told : Writer → List ℕ → Type 0
-  Told r ms = ((w : Program) → OfProgram y m p root rounds g w → r ≡ written h₁ (T₂ w)) × (r .filled ≤ 1000000001000000000) × Used (y .now) p (m .now) ms
+  Told r ms = ((w : Program) → OfProgram y m p root rounds g w → r ≡ written h₁ (T₂ w)) × (r .filled ≤ 1000000001000000000) × Used p (m .now) ms
 
   abbrev Written : Type 0
   Written = (w : Program) → OfProgram y m p root rounds g w → root ≡ rootPlace w → Emitted ys 0 (formatCleanReport (toldReport w (fellOf p (m .now)) rounds)) n zs
@@ -258,14 +258,14 @@ module _ {M : Type 1} (𝓤 : URA M) (H : Heap 𝓤) (A : Atoms 𝓤) (W : Given
       (emitted-append T₁ (T₂ w ++ T₃) (record { after = refl; left = refl })
       (emitted-append (T₂ w) T₃ (record { after = ap (λ (r : Writer). r .filled) (same w d); left = ap (λ (r : Writer). r .text .now) (same w d) }) (record { after = refl; left = refl })))
 
-  exits : (ms : List ℕ) → ((w : Program) → OfProgram y m p root rounds g w → h₂ ≡ written h₁ (T₂ w)) → Used (y .now) p (m .now) ms → length ms ≡ length (m .now) → n < 2 ^ 64
+  exits : (ms : List ℕ) → ((w : Program) → OfProgram y m p root rounds g w → h₂ ≡ written h₁ (T₂ w)) → Used p (m .now) ms → length ms ≡ length (m .now) → n < 2 ^ 64
       → ent 𝓤 (sep 𝓤 (sep 𝓤 (A .lft κ q) (sem 𝓤 H A ftrue)) (sep 𝓤 (sep 𝓤 (A .lft κ₀ q₀) (A .lft κ₁ q₁)) (sep 𝓤 (sem 𝓤 H A (MutSlice (named 2) κ u8 .own (x zs) (s (length zs) ∷ []))) (sem 𝓤 H A (finally u32 (m .name) ms))))) (Post (vint w64 n))
   exits ms same used l n-fits =
       qed W ((‵ (flft κ q) ⊛ ‵ ftrue) ∷ (‵ (flft κ₀ q₀) ⊛ ‵ (flft κ₁ q₁)) ∷ ‵ (MutSlice (named 2) κ u8 .own (x zs) (s (length zs) ∷ [])) ∷ ‵ (finally u32 (m .name) ms) ∷ []) ∵
       suffices ! _
       (ends-at 𝓤 H A format-clean-report.ended stayed (format-clean-report.clauses 𝓤 H A mem run) W (((κ₀, (κ₁, (κ, tt))), (q₀, (q₁, (q, tt))), tt, a, vals), tt) (vint w64 n) n
       (tt, (ms, (tt, (tt, (tt, (tt, (zs, tt))))))) (tt, (l, (tt, (tt, (tt, (tt, (as-long, tt)))))))) $
-      suffices ! _ (assoc∗ 𝓤 (onExit 𝓤 H A format-clean-report.ended stayed (κ₀, (κ₁, (κ, tt))) (q₀, (q₁, (q, tt))) vals (vint w64 n) n a (tt, (ms, (tt, (tt, (tt, (tt, (zs, tt)))))))) (fact 𝓤 Written) (fact 𝓤 (Used (y .now) p (m .now) ms))) $ says ! used $ says ! (all-written same) $
+      suffices ! _ (assoc∗ 𝓤 (onExit 𝓤 H A format-clean-report.ended stayed (κ₀, (κ₁, (κ, tt))) (q₀, (q₁, (q, tt))) vals (vint w64 n) n a (tt, (ms, (tt, (tt, (tt, (tt, (zs, tt)))))))) (fact 𝓤 Written) (fact 𝓤 (Used p (m .now) ms))) $ says ! used $ says ! (all-written same) $
       split ! $ move ! (1 ∷ []) $ drop ! $ use2 W (‵ (flft κ₀ q₀) ⊛ (‵ (flft κ₁ q₁) ⊛ (‵ (flft κ q) ⊛ ‵ ftrue))) (tokens-in 𝓤 H A W κ₀ κ₁ κ q₀ q₁ q) $ frame ! $
       rewrite ! 0 (λ (k : ℕ). ‵ (MutSlice (named 2) κ u8 .own (x zs) (s k ∷ []))) as-long refl $
       nothing ! $ move ! (1 ∷ 0 ∷ []) $ fjoin ! $ nothing ! $ fjoin ! $ nothing ! $ fjoin ! $ nothing ! $ fjoin ! $ nothing ! $ fjoin ! $ move ! (1 ∷ 0 ∷ []) $ fjoin ! $ nothing ! $ fjoin ! $ frame ! $ owned ! usize (Is usize) (uint-makes 𝓤 H A W w64) (n) _ (refl, n-fits) $ done !

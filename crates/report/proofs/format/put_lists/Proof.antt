@@ -41,7 +41,6 @@ put-uncovered-requires c κs =
     let u = c .before .before .before .before .before .before .before .before .before .before .before .put-undecided .ensures .1 .1 .1 in (
       used-some u (record { program = p .0 .program; readable = p .0 .reporting .removing .readable }),
       omega (arith, c .before .before .before .before .put-count-line2 .ensures .1, c .before .before .before .before .before .before .before .before .before .before .before .put-undecided .ensures .1 .1 .0, c .before .before .before .before .before .before .before .before .before .before .before .before .before .before .before .before .put-count-line .ensures .1, c .before .before .before .before .before .before .before .before .before .before .before .before .before .before .before .before .before .before .before .before .before .put-removed .ensures .1 .1, p .2),
-      u .remembers,
     )
 
 same-length : tie.Need-same-length

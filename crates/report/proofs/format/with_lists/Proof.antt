@@ -45,7 +45,7 @@ use Rattle.index.specs.declared.Plan.{Plan}
 use Rattle.index.proofs.Plan as P
 use Rattle.index.proofs.Plan.Laws as P′
 use Rattle.cleaning.specs.Indexed.{fellOf}
-use Rattle.cleaning.specs.Room.{Remembering, Used}
+use Rattle.cleaning.specs.Room.{Used}
 use Rattle.text.specs.declared.writer.Writer.{Writer}
 use Rattle.text.specs.Fill.{Emitted}
 use Rattle.text.proofs.writer.Writer as T
@@ -129,7 +129,7 @@ module _ {M : Type 1} (𝓤 : URA M) (H : Heap 𝓤) (A : Atoms 𝓤) (W : Given
   six-out = last-out 𝓤 H A W (ShrSlice (named 0) κ₀ u8 .own y (bv ∷ [])) (MutSlice (named 1) κ₁ u32 .own m (mv ∷ [])) (P.the-row .own p (pv ∷ [])) (usize .own root (vint w64 root ∷ [])) (usize .own rounds (vint w64 rounds ∷ [])) (G.the-row .own g (gv ∷ [])) (T.the-row α .own h (mach n ∷ []))
 
   abbrev Asked : Type 0
-  Asked = SomeReporting (y .now) (m .now) p rounds g × (rounds < 4096) × (n ≤ 1000) × Remembering (y .now) p (m .now)
+  Asked = SomeReporting (y .now) (m .now) p rounds g × (rounds < 4096) × (n ≤ 1000)
 
   goes : (ν : ℕ) (δ : GName) → Asked → ent 𝓤 (sep 𝓤 (sep 𝓤 (A .lft (ν ∷ []) fullShare) (sep 𝓤 (A .lft κ₀ q₀) (A .lft κ₁ q₁))) (sep 𝓤 (sem 𝓤 H A (MutSlice (named 2) (ν ∷ []) u8 .own (x δ ys) (s ∷ []))) (sem 𝓤 H A Six))) (PutListed 𝓤 H A mem run .pre (to-put-listed ν δ))
   goes ν δ asked =
@@ -140,7 +140,7 @@ module _ {M : Type 1} (𝓤 : URA M) (H : Heap 𝓤) (A : Atoms 𝓤) (W : Given
 
   -- what `put_listed` ensures, of the entries ms and the list zs that it leaves
   abbrev Told : ℕ → List ℕ → List ℕ → Type 0
-  Told r ms zs = ((w : Program) → Reporting (y .now) w (m .now) p rounds g → Emitted ys n (listedText w root (fellOf p (m .now)) rounds) r zs) × (r ≤ 1000000001000000000) × Used (y .now) p (m .now) ms
+  Told r ms zs = ((w : Program) → Reporting (y .now) w (m .now) p rounds g → Emitted ys n (listedText w root (fellOf p (m .now)) rounds) r zs) × (r ≤ 1000000001000000000) × Used p (m .now) ms
 
   exits : (r : ℕ) (ms zs : List ℕ) → Told r ms zs → length ms ≡ length (m .now) → r < 2 ^ 64
       → ent 𝓤 (sep 𝓤 (A .lft κ q) (sep 𝓤 (sep 𝓤 (A .lft κ₀ q₀) (A .lft κ₁ q₁)) (sep 𝓤 (sem 𝓤 H A (MutSlice (named 2) κ u8 .own (x γ zs) (s ∷ []))) (sem 𝓤 H A (finally u32 (m .name) ms))))) (Post (mach r))
@@ -205,7 +205,7 @@ module _ {M : Type 1} (𝓤 : URA M) (H : Heap 𝓤) (A : Atoms 𝓤) (W : Given
   with-lists-walks C Λ fm known = walked 𝓤 H A with-lists.ended stayed (with-lists.clauses 𝓤 H A mem run) (WpFn 𝓤 H C Λ code.function)
       (λ κs. (slice-vals, (slice-vals, (LL.vals P.the-type P′.the-laws, (uint-vals w64, (uint-vals w64, (LL.vals G.the-type G′.the-laws, (LL.vals (T.the-type (namedLft 3 2 tt κs)) (T′.the-laws (namedLft 3 2 tt κs)), tt))))))))
       (λ κs. (shr-slice-tells (named 0) (κs .0) u8, (mut-slice-tells (named 1) (κs .1 .0) u32, (LL.tells P.the-type P′.the-laws, (uint-tells w64, (uint-tells w64, (LL.tells G.the-type G′.the-laws, (LL.tells (T.the-type (namedLft 3 2 tt κs)) (T′.the-laws (namedLft 3 2 tt κs)), tt))))))))
-      (λ κs qs bounds a g are. needs 𝓤 (SomeReporting (a .0 .now) (a .1 .0 .now) (a .1 .1 .0) (a .1 .1 .1 .1 .0) (a .1 .1 .1 .1 .1 .0) × (a .1 .1 .1 .1 .0 < 4096) × (a .1 .1 .1 .1 .1 .1 .0 .filled ≤ 1000) × Remembering (a .0 .now) (a .1 .1 .0) (a .1 .0 .now)) _ (λ asked.
+      (λ κs qs bounds a g are. needs 𝓤 (SomeReporting (a .0 .now) (a .1 .0 .now) (a .1 .1 .0) (a .1 .1 .1 .1 .0) (a .1 .1 .1 .1 .1 .0) × (a .1 .1 .1 .1 .0 < 4096) × (a .1 .1 .1 .1 .1 .1 .0 .filled ≤ 1000)) _ (λ asked.
       let w = a .1 .1 .1 .1 .1 .1 .0 in
       let fields = LL.owed (T.the-type (namedLft 3 2 tt κs)) (T′.the-laws (namedLft 3 2 tt κs)) w _ (are .1 .1 .1 .1 .1 .1 .0) in
       walk 𝓤 H A W mem run (κs .0) (κs .1 .0) (κs .1 .1 .0) (qs .0) (qs .1 .0) (qs .1 .1 .0) (a .0) (a .1 .0) (a .1 .1 .0) (a .1 .1 .1 .0) (a .1 .1 .1 .1 .0) (a .1 .1 .1 .1 .1 .0) (w .text .ptr .0) (w .text .ptr .1) (w .text .name) (w .text .now) (w .filled) (fields .1 .0 .1)

@@ -9,7 +9,7 @@ use Rattle.program.specs.Limits.{Mode}
 use Rattle.image.specs.Parts.{TermsAt}
 use Rattle.report.specs.Leading.{angledAfter}
 use Rattle.report.specs.Uncovered.{ArgumentAt}
-use Rattle.overlap.proofs.Readings.{part, part-length}
+use Rattle.rows.proofs.Readings.{part, part-length}
 use Rattle.text.proofs.Fill.{emitted-append, emitted-same}
 use Rattle.text.proofs.Formatting.{terms-text-fits}
 use Rattle.patterns.specs.Ascii.{ascii}

@@ -32,7 +32,7 @@ returns : tie.Need-returns
 returns c =
     let s = (c .before .before .before .before .before) in (
       λ w f x y z d o g l k. covers-gone (keep s (s .args .s)) (not (isDisjoint (patternsOverlap (z .pattern) (y .site .argument)))) (sym (c .before .is-there .ensures) ∙ not-is (c .before .is-there .result) true (c .if1 .taken)),
-      used-same (s .pre .2),
+      used-same,
     )
 
 -- The witness of the sentence, which stands in a column.
@@ -77,7 +77,7 @@ returns-2 : tie.Need-returns-2
 returns-2 c =
     let s = (c .before .before .before .before .before .before .before .before) in (
       λ w f x y z d o g l k. covers-known (keep s (s .args .s)) (there (c .before .before .before)) (z .pattern) y false (unmet-before (keep s) (x .name) (z .pattern) (sitesOf w) (getD (s .args .work .now) (witnesses (s .args .plan) + s .args .s) 0) (d .witnessed .witness f x (s .args .s) z o) (s .args .i) y g l k (omega (arith, c .if2 .taken, read-is (c .before .before)))),
-      used-same (s .pre .2),
+      used-same,
     )
 
 add-if3 : tie.Need-add-if3
@@ -90,7 +90,7 @@ returns-3 : tie.Need-returns-3
 returns-3 c =
     let s = (c .before .before .before .before .before .before .before .before .before) in (
       λ w f x y z d o g l k. covers-known (keep s (s .args .s)) (there (c .before .before .before .before)) (z .pattern) y true (met-itself (keep s) (x .name) (z .pattern) (sitesOf w) (getD (s .args .work .now) (witnesses (s .args .plan) + s .args .s) 0) (d .witnessed .witness f x (s .args .s) z o) (s .args .i) y g (omega (arith, c .if3 .taken, read-is (c .before .before .before)))),
-      used-same (s .pre .2),
+      used-same,
     )
 
 pattern-place-requires : tie.Need-pattern-place-requires
@@ -113,7 +113,6 @@ verdict-at-requires c κs =
         reading = pattern-at (p .readable) (s .args .s) (y .element) (y .is) (c .before .pattern-place .result) (c .before .pattern-place .ensures .0);
       },
       p .readable .short,
-      s .pre .2,
     )
 
 is-disjoint-requires : tie.Need-is-disjoint-requires

@@ -30,7 +30,7 @@ abbrev Inv-loop : tie.InvT-loop
 Inv-loop b work₀ plan f i end s₀ work s =
     ((w : Program) (x : Function) (y : Held) → Readable b w work₀ plan → getElem? (w .functions) f ≡ some x → getElem? (sitesOf w) i ≡ some y → isListed true (x .name) y ≡ true → isThere (fellOf plan work₀) afterAll (y .sentence) ≡ true
     → Uncovering (isThere (fellOf plan work₀) afterAll) w f (y .site .argument) s)
-    × Used b plan work₀ work
+    × Used plan work₀ work
 
 abbrev μ-loop : tie.MeasureT-loop
 μ-loop b work₀ plan f i end s₀ work s = end - s
@@ -80,10 +80,10 @@ first-sentence-requires-2 c κs = (body (c .before .before .before .before .befo
 loop-holds : tie.Need-loop-holds Inv-loop μ-loop
 loop-holds c =
     let s = (c .before .before .before .before .before .before) in
-    (λ w x y d e g l k. covering-first (keep s) w (s .args .f) x e (y .site .argument) (c .first-sentence2 .result) (c .first-sentence2 .ensures (s .args .b .now) w (d .indexed)), used-same (s .pre .2))
+    (λ w x y d e g l k. covering-first (keep s) w (s .args .f) x e (y .site .argument) (c .first-sentence2 .result) (c .first-sentence2 .ensures (s .args .b .now) w (d .indexed)), used-same)
 
 covers-requires : tie.Need-covers-requires Inv-loop μ-loop
-covers-requires c κs = let u = c .before .before .loop .inv .1 in (used-site u (c .before .before .before .before .before .before .before .before .before .pre .0), sentence-below (c .before .before) (c .before .loop-test .taken), u .remembers)
+covers-requires c κs = let u = c .before .before .loop .inv .1 in (used-site u (c .before .before .before .before .before .before .before .before .before .pre .0), sentence-below (c .before .before) (c .before .loop-test .taken))
 
 same-length : tie.Need-same-length Inv-loop μ-loop
 same-length c = c .before .before .before .covers .ensures .1 .length ∙ c .before .before .before .before .before .before .loop .inv .1 .length

@@ -31,7 +31,7 @@ returns c =
       λ w x d e.
           uncovered-same (none-judged (uncoveredIn (keep s) (sitesOf w) (sentencesBefore (a .f) (w .functions)) x) (sym (c .before .is-judged .ensures (a .b .now) w x (d .indexed) e) ∙ not-is (c .before .is-judged .result) true (c .if1 .taken)))
           (uncovered-nothing w (a .out .now) (a .listed .at) (a .listed .count) (a .listed .function) (a .listed .item)),
-      ((omega arith, s .pre .5, s .pre .2), used-same (s .pre .6)),
+      ((omega arith, s .pre .5, s .pre .2), used-same),
     )
 
 put-uncovered-in-requires : tie.Need-put-uncovered-in-requires

@@ -47,11 +47,11 @@ returns c =
           uncovered-same
           (not-leading (keep s) (sitesOf w) x (sentencesBefore (a .f) (w .functions)) (a .i) y (sym (c .before .leads .ensures (a .b .now) w (a .f) x y (d .indexed) e g l) ∙ not-is (c .before .leads .result) true (c .if1 .taken)))
           (uncovered-nothing w (a .out .now) (a .listed .at) (a .listed .count) (a .listed .function) (a .listed .item)),
-      ((omega arith, s .pre .5, s .pre .2), used-same (s .pre .6)),
+      ((omega arith, s .pre .5, s .pre .2), used-same),
     )
 
 is-covered-requires : tie.Need-is-covered-requires
-is-covered-requires c κs = let p = c .before .before .before .before .before .before .before .pre in (p .0, p .1, p .6)
+is-covered-requires c κs = let p = c .before .before .before .before .before .before .before .pre in (p .0, p .1)
 
 same-length-2 : tie.Need-same-length-2
 same-length-2 c = search needs
@@ -70,7 +70,7 @@ put-candidate-requires : tie.Need-put-candidate-requires
 put-candidate-requires c κs =
     let p = c .before .before .before .before .before .before .before .before .before .before .before .before .before .pre in
     let u = c .before .before .before .before .before .is-covered .ensures .1 in
-    (used-site u (p .0), p .1, omega (arith, p .1, p .2), λ w d. p .3 w (used-readable (used-back (p .6) u) d), p .4, p .5)
+    (used-site u (p .0), p .1, omega (arith, p .1, p .2), λ w d. p .3 w (used-readable (used-back u) d), p .4, p .5)
 
 same-length-3 : tie.Need-same-length-3
 same-length-3 c = search needs

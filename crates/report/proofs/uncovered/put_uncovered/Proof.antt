@@ -29,7 +29,7 @@ use Rattle.report.proofs.uncovered.put_uncovered.Tie as tie
 abbrev Inv-loop : tie.InvT-loop
 Inv-loop b work₀ plan out₀ at last₀ f₀ work out last f =
     ((w : Program) → Readable b w work₀ plan → OverFunctions (isThere (fellOf plan work₀) afterAll) w out₀ at (plan .sites) f out (last .at) (last .count) (last .function) (last .item))
-    × (last .at ≤ at + 655360000 * f) × (last .count ≤ last .at) × (last .function ≤ f) × (f ≤ plan .functions) × Used b plan work₀ work
+    × (last .at ≤ at + 655360000 * f) × (last .count ≤ last .at) × (last .function ≤ f) × (f ≤ plan .functions) × Used plan work₀ work
 
 abbrev μ-loop : tie.MeasureT-loop
 μ-loop b work₀ plan out₀ at last₀ f₀ work out last f = plan .functions - f
@@ -41,7 +41,7 @@ abbrev Given : tie.Start Inv-loop μ-loop → Program → Type 0
 Given s w = Readable (s .args .b .now) w (s .args .work .now) (s .args .plan)
 
 loop-holds : tie.Need-loop-holds Inv-loop μ-loop
-loop-holds c = let s = (c .before .before .before) in (λ w d. over-first (keep s) w (s .args .out .now) (s .args .at) (s .args .plan .sites), omega arith, omega arith, omega arith, omega arith, used-same (s .pre .2))
+loop-holds c = let s = (c .before .before .before) in (λ w d. over-first (keep s) w (s .args .out .now) (s .args .at) (s .args .plan .sites), omega arith, omega arith, omega arith, omega arith, used-same)
 
 put-if-judged-requires : tie.Need-put-if-judged-requires Inv-loop μ-loop
 put-if-judged-requires c κs =
@@ -51,10 +51,9 @@ put-if-judged-requires c κs =
       used-some (i .5) (s .pre .0),
       c .before .before .if1 .taken,
       i .3,
-      λ w q. i .0 w (used-readable (used-back (s .pre .2) (i .5)) q) .told .plain (plain-none w 0 (s .args .plan .sites) (omega (arith, q .indexed .sites))),
+      λ w q. i .0 w (used-readable (used-back (i .5)) q) .told .plain (plain-none w 0 (s .args .plan .sites) (omega (arith, q .indexed .sites))),
       omega (arith, i .1, c .before .before .if1 .taken, d .fits, d .small, s .pre .1),
       i .2,
-      i .5 .remembers,
     )
 
 add-f : tie.Need-add-f Inv-loop μ-loop

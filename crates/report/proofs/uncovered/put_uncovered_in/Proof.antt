@@ -33,7 +33,7 @@ abbrev Inv-loop : tie.InvT-loop
 Inv-loop b work₀ plan f out₀ links i₀ last₀ work out i last =
     ((w : Program) (x : Function) → Readable b w work₀ plan → getElem? (w .functions) f ≡ some x
     → OnSites (isThere (fellOf plan work₀) afterAll) w x (sentencesBefore f (w .functions)) out₀ (last₀ .at) (last₀ .count) (last₀ .function) (last₀ .item) i out (last .at) (last .count) (last .function) (last .item))
-    × (last .count ≤ last .at) × (last .function ≤ f) × Used b plan work₀ work
+    × (last .count ≤ last .at) × (last .function ≤ f) × Used plan work₀ work
 
 abbrev μ-loop : tie.MeasureT-loop
 μ-loop b work₀ plan f out₀ links i₀ last₀ work out i last = plan .sites - i
@@ -70,7 +70,7 @@ loop-holds c =
       λ w x d e. sites-first (keep s) w x (sentencesBefore (s .args .f) (w .functions)) (c .head-site .result) (head-first (d .indexed) (s .args .f) x e true (c .head-site .result) (c .head-site .ensures .0)) (s .args .out .now) (l .at) (l .count) (l .function) (l .item),
       s .pre .5,
       s .pre .2,
-      used-same (s .pre .6),
+      used-same,
     )
 
 put-if-uncovered-requires : tie.Need-put-if-uncovered-requires Inv-loop μ-loop
@@ -85,12 +85,11 @@ put-if-uncovered-requires c κs =
       s .pre .1,
       h .2,
       λ w d.
-          let e = used-readable (used-back (s .pre .6) (h .3)) d in
+          let e = used-readable (used-back (h .3)) d in
           let u = function-of e (s .args .f) (s .pre .1) in
           h .0 w (u .element) e (u .is) .told .plain (s .pre .3 w e),
       omega (arith, i .short, c .before .before .if1 .taken, p .readable .indexed .fits, p .readable .indexed .small, s .pre .4),
       h .1,
-      h .3 .remembers,
     )
 
 next-site-requires : tie.Need-next-site-requires Inv-loop μ-loop

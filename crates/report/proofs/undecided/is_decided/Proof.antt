@@ -33,7 +33,7 @@ abbrev Inv-loop : tie.InvT-loop
 Inv-loop b work₀ plan f s pattern links i₀ work i =
     ((w : Program) (x : Function) (y : Sentence) → Readable b w work₀ plan → Owns w f x s y
     → Going (isListed true (x .name)) (overlaps (isThere (fellOf plan work₀) afterAll) (x .name) (y .pattern)) 0 (sitesOf w) i)
-    × Used b plan work₀ work
+    × Used plan work₀ work
 
 abbrev μ-loop : tie.MeasureT-loop
 μ-loop b work₀ plan f s pattern links i₀ work i = plan .sites - i
@@ -42,10 +42,10 @@ abbrev keep : tie.Start Inv-loop μ-loop → ℕ → Bool
 keep s = isThere (fellOf (s .args .plan) (s .args .work .now)) afterAll
 
 function-below : (s : tie.Start Inv-loop μ-loop) → s .args .f < s .args .plan .functions
-function-below s = owner-below (s .pre .0 .readable) (s .pre .0 .owns)
+function-below s = owner-below (s .pre .readable) (s .pre .owns)
 
 sentence-below : (s : tie.Start Inv-loop μ-loop) → s .args .s < s .args .plan .sentences
-sentence-below s = owned-below (s .pre .0 .readable) (s .pre .0 .owns)
+sentence-below s = owned-below (s .pre .readable) (s .pre .owns)
 
 abbrev test : (s : tie.Start Inv-loop μ-loop) (x : Function) (y : Sentence) → Held → Bool
 test s x y = overlaps (keep s) (x .name) (y .pattern)
@@ -60,10 +60,10 @@ pattern c w y d e = pattern-at d (c .before .before .before .before .args .s) y 
 
 -- The walk at the loop's head, for the program that the function was given.
 abbrev given : (h : tie.At-loop Inv-loop μ-loop) → let s = h .before .before .before .before .before .before .before .before in
-    Going (isListed true (s .pre .0 .function .name)) (test s (s .pre .0 .function) (s .pre .0 .sentence)) 0 (sitesOf (s .pre .0 .program)) (h .loop .i)
+    Going (isListed true (s .pre .function .name)) (test s (s .pre .function) (s .pre .sentence)) 0 (sitesOf (s .pre .program)) (h .loop .i)
 given h =
     let s = h .before .before .before .before .before .before .before .before in
-    h .loop .inv .0 (s .pre .0 .program) (s .pre .0 .function) (s .pre .0 .sentence) (s .pre .0 .readable) (s .pre .0 .owns)
+    h .loop .inv .0 (s .pre .program) (s .pre .function) (s .pre .sentence) (s .pre .readable) (s .pre .owns)
 
 next-is : (c : tie.After-next-site Inv-loop μ-loop) → let a = c .before .before .before .before .before .before .before .before .before .before .before .before .before .before .before .before .before .args in c .next-site .result ≡ entryNext (getD (a .work .now) (links (a .plan) + c .before .before .before .before .before .before .before .before .before .loop .i) 0)
 next-is c = used-next (used-then (c .before .before .before .before .before .before .before .before .before .loop .inv .1) (c .before .before .before .before .before .overlaps-at .ensures .1)) (c .before .before .before .before .before .before .before .before .before .before .before .before .links-of .result) (c .before .before .before .before .before .before .before .before .before .loop .i) (c .before .before .before .before .before .before .before .before .before .before .before .before .links-of .ensures) (c .before .before .before .before .before .before .before .if1 .taken) (c .next-site .result) (c .next-site .ensures .0)
@@ -80,23 +80,23 @@ asked c w x y d o =
     ∙ ap (λ (t : ℕ → Bool). overlaps t (x .name) (y .pattern) (z .element)) (used-keep u afterAll)
 
 pattern-place-requires : tie.Need-pattern-place-requires Inv-loop μ-loop
-pattern-place-requires c κs = let d = c .before .before .before .pre .0 .readable .indexed in (sentence-below (c .before .before .before), omega (arith, d .fits), d .small)
+pattern-place-requires c κs = let d = c .before .before .before .pre .readable .indexed in (sentence-below (c .before .before .before), omega (arith, d .fits), d .small)
 
 links-of-requires : tie.Need-links-of-requires Inv-loop μ-loop
-links-of-requires c κs = let d = c .before .before .before .before .pre .0 .readable .indexed in (omega (arith, d .fits, d .small), omega (arith, d .fits, d .small), omega (arith, d .fits, d .small))
+links-of-requires c κs = let d = c .before .before .before .before .pre .readable .indexed in (omega (arith, d .fits, d .small), omega (arith, d .fits, d .small), omega (arith, d .fits, d .small))
 
 witness-of-requires : tie.Need-witness-of-requires Inv-loop μ-loop
-witness-of-requires c κs = let s = c .before .before .before .before .before .before in let d = s .pre .0 .readable .indexed in (function-below s, sentence-below s, d .fits, d .small)
+witness-of-requires c κs = let s = c .before .before .before .before .before .before in let d = s .pre .readable .indexed in (function-below s, sentence-below s, d .fits, d .small)
 
 loop-holds : tie.Need-loop-holds Inv-loop μ-loop
 loop-holds c =
     let s = (c .before .before .before .before .before .before .before) in
-    (λ w x y d o. walk-first d o (c .witness-of .result) (c .witness-of .ensures), used-same (s .pre .1))
+    (λ w x y d o. walk-first d o (c .witness-of .result) (c .witness-of .ensures), used-same)
 
 overlaps-at-requires : tie.Need-overlaps-at-requires Inv-loop μ-loop
 overlaps-at-requires c κs =
     let s = (c .before .before .before .before .before .before .before .before .before .before .before) in
-    let p = s .pre .0 in
+    let p = s .pre in
     let x = p .function in
     let y = p .sentence in
     let e = p .owns .function in
@@ -114,7 +114,6 @@ overlaps-at-requires c κs =
         reading = pattern (c .before .before .before .before .before .before .before) (p .program) y (p .readable) (p .owns .sentence);
       },
       p .readable .short,
-      v .remembers,
     )
 
 same-length : tie.Need-same-length Inv-loop μ-loop
@@ -128,7 +127,7 @@ returns c =
     )
 
 next-site-requires : tie.Need-next-site-requires Inv-loop μ-loop
-next-site-requires c κs = let d = c .before .before .before .before .before .before .before .before .before .before .before .before .before .before .before .before .pre .0 .readable .indexed in omega (arith, d .fits, c .before .before .before .before .before .before .if1 .taken, c .before .before .before .before .before .before .before .before .before .before .before .links-of .ensures, c .before .before .before .before .before .before .before .before .loop .inv .1 .length, c .before .before .before .before .overlaps-at .ensures .1 .length)
+next-site-requires c κs = let d = c .before .before .before .before .before .before .before .before .before .before .before .before .before .before .before .before .pre .readable .indexed in omega (arith, d .fits, c .before .before .before .before .before .before .if1 .taken, c .before .before .before .before .before .before .before .before .before .before .before .links-of .ensures, c .before .before .before .before .before .before .before .before .loop .inv .1 .length, c .before .before .before .before .overlaps-at .ensures .1 .length)
 
 next : (c : tie.After-next-site Inv-loop μ-loop) (w : Program) (x : Function) (y : Sentence) → let s = (c .before .before .before .before .before .before .before .before .before .before .before .before .before .before .before .before .before) in Readable (s .args .b .now) w (s .args .work .now) (s .args .plan) → Owns w (s .args .f) x (s .args .s) y
     → Going (isListed true (x .name)) (test s x y) 0 (sitesOf w) (c .next-site .result) × (c .before .before .before .before .before .before .before .before .before .loop .i < c .next-site .result)
@@ -139,7 +138,7 @@ next c w x y d o =
 loop-less : tie.Need-loop-less Inv-loop μ-loop
 loop-less c =
     let s = (c .before .before .before .before .before .before .before .before .before .before .before .before .before .before .before .before .before) in
-    let n = next c (s .pre .0 .program) (s .pre .0 .function) (s .pre .0 .sentence) (s .pre .0 .readable) (s .pre .0 .owns) in
+    let n = next c (s .pre .program) (s .pre .function) (s .pre .sentence) (s .pre .readable) (s .pre .owns) in
     omega (arith, c .before .before .before .before .before .before .before .if1 .taken, n .1)
 
 loop-again : tie.Need-loop-again Inv-loop μ-loop

@@ -30,7 +30,7 @@ returns : tie.Need-returns
 returns c =
     let s = (c .before .before .before .before .before) in (
       λ w f x y d e g l t. overlaps-gone d f x e (keep s) (t .terms) (s .args .i) y g l (sym (c .before .site-there .ensures) ∙ not-is (c .before .site-there .result) true (c .if1 .taken)),
-      used-same (s .pre .2),
+      used-same,
     )
 
 verdict-at-requires : tie.Need-verdict-at-requires

@@ -35,7 +35,7 @@ returns c =
           listing-same undecidedLine sameUndecided
           (none-judged (undecidedIn (keep s) (sitesOf w) (sentencesBefore (a .f) (w .functions)) x) (sym (c .before .is-judged .ensures (a .b .now) w x (d .indexed) e) ∙ not-is (c .before .is-judged .result) true (c .if1 .taken)))
           (listing-nothing undecidedLine sameUndecided (lastUndecided w (a .listed .function) (a .listed .item)) (a .out .now) (a .listed .at) (a .listed .count)),
-      ((λ w d. omega (arith, before-later (w .functions) (a .f) (suc (a .f)) (omega arith)), s .pre .4, s .pre .2), used-same (s .pre .5)),
+      ((λ w d. omega (arith, before-later (w .functions) (a .f) (suc (a .f)) (omega arith)), s .pre .4, s .pre .2), used-same),
     )
 
 put-undecided-in-requires : tie.Need-put-undecided-in-requires

@@ -35,11 +35,11 @@ returns c =
       λ w x y d o.
           listing-same undecidedLine sameUndecided (not-there (keep s) (sitesOf w) x (a .s) y (sym (c .before .is-there .ensures) ∙ not-is (c .before .is-there .result) true (c .if1 .taken)))
           (listing-nothing undecidedLine sameUndecided (lastUndecided w (a .listed .function) (a .listed .item)) (a .out .now) (a .listed .at) (a .listed .count)),
-      ((omega arith, s .pre .3, s .pre .1), used-same (s .pre .4)),
+      ((omega arith, s .pre .3, s .pre .1), used-same),
     )
 
 is-decided-requires : tie.Need-is-decided-requires
-is-decided-requires c κs = let p = c .before .before .before .before .before .before .before .pre in (p .0, p .4)
+is-decided-requires c κs = let p = c .before .before .before .before .before .before .before .pre in p .0
 
 same-length-2 : tie.Need-same-length-2
 same-length-2 c = search needs

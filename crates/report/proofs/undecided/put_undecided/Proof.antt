@@ -31,7 +31,7 @@ use Rattle.report.proofs.undecided.put_undecided.Tie as tie
 abbrev Inv-loop : tie.InvT-loop
 Inv-loop b work₀ plan out₀ at last₀ f₀ work out last f =
     ((w : Program) → Readable b w work₀ plan → OverFunctions (isThere (fellOf plan work₀) afterAll) w out₀ at (plan .sentences) f out (last .at) (last .count) (last .function) (last .item))
-    × (last .count ≤ last .at) × (last .function ≤ f) × Used b plan work₀ work
+    × (last .count ≤ last .at) × (last .function ≤ f) × Used plan work₀ work
 
 abbrev μ-loop : tie.MeasureT-loop
 μ-loop b work₀ plan out₀ at last₀ f₀ work out last f = plan .functions - f
@@ -46,7 +46,7 @@ few : (s : tie.Start Inv-loop μ-loop) (w : Program) → Given s w → (f : ℕ)
 few s w d f = omega (arith, before-most (w .functions) f, own-counted (w .functions), d .indexed .sentences, d .indexed .fits, d .indexed .small)
 
 loop-holds : tie.Need-loop-holds Inv-loop μ-loop
-loop-holds c = let s = (c .before .before .before) in (λ w d. over-first (keep s) w (s .args .out .now) (s .args .at) (s .args .plan .sentences), omega arith, omega arith, used-same (s .pre .2))
+loop-holds c = let s = (c .before .before .before) in (λ w d. over-first (keep s) w (s .args .out .now) (s .args .at) (s .args .plan .sentences), omega arith, omega arith, used-same)
 
 put-if-judged-requires : tie.Need-put-if-judged-requires Inv-loop μ-loop
 put-if-judged-requires c κs =
@@ -56,9 +56,8 @@ put-if-judged-requires c κs =
       used-some (h .3) (s .pre .0),
       c .before .before .if1 .taken,
       h .2,
-      λ w d. let e = used-readable (used-back (s .pre .2) (h .3)) d in omega (arith, h .0 w e .short, few s w e (suc f), s .pre .1),
+      λ w d. let e = used-readable (used-back (h .3)) d in omega (arith, h .0 w e .short, few s w e (suc f), s .pre .1),
       h .1,
-      h .3 .remembers,
     )
 
 add-f : tie.Need-add-f Inv-loop μ-loop

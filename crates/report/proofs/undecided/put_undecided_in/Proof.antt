@@ -30,7 +30,7 @@ use Rattle.report.proofs.undecided.put_undecided_in.Tie as tie
 abbrev Inv-loop : tie.InvT-loop
 Inv-loop b work₀ plan f out₀ end s₀ last₀ work out s last =
     ((w : Program) (x : Function) → Readable b w work₀ plan → getElem? (w .functions) f ≡ some x → InFunction (isThere (fellOf plan work₀) afterAll) w f x out₀ (last₀ .at) (last₀ .count) (last₀ .function) (last₀ .item) s out (last .at) (last .count) (last .function) (last .item))
-    × (last .count ≤ last .at) × (last .function ≤ f) × Used b plan work₀ work
+    × (last .count ≤ last .at) × (last .function ≤ f) × Used plan work₀ work
 
 abbrev μ-loop : tie.MeasureT-loop
 μ-loop b work₀ plan f out₀ end s₀ last₀ work out s last = end - s
@@ -71,7 +71,7 @@ loop-holds : tie.Need-loop-holds Inv-loop μ-loop
 loop-holds c =
     let s = (c .before .before .before .before .before .before .before) in
     let l = s .args .listed in
-    (λ w x d e. in-first (keep s) w (s .args .f) x e (c .first-sentence2 .result) (c .first-sentence2 .ensures (s .args .b .now) w (d .indexed)) (s .args .out .now) (l .at) (l .count) (l .function) (l .item), s .pre .4, s .pre .2, used-same (s .pre .5))
+    (λ w x d e. in-first (keep s) w (s .args .f) x e (c .first-sentence2 .result) (c .first-sentence2 .ensures (s .args .b .now) w (d .indexed)) (s .args .out .now) (l .at) (l .count) (l .function) (l .item), s .pre .4, s .pre .2, used-same)
 
 put-if-undecided-requires : tie.Need-put-if-undecided-requires Inv-loop μ-loop
 put-if-undecided-requires c κs =
@@ -83,7 +83,7 @@ put-if-undecided-requires c κs =
     let i = h .0 w (x .element) d (x .is) in
     let y = sentence-of d (c .before .before .before .loop .s) (sentence-below (c .before .before .before) (c .before .before .loop-test .taken)) in
     let e = end-is (c .before .before .before .before .before .before) w d in
-    (record { program = w; readable = used-readable (h .3) d; function = x .element; sentence = y .element; owns = record { function = x .is; sentence = y .is; from = i .from; upto = omega (arith, e, c .before .before .loop-test .taken) } }, h .2, omega (arith, i .short, i .from, s .pre .3 w d, end-is (c .before .before .before .before .before .before) w d, c .before .before .loop-test .taken), h .1, h .3 .remembers)
+    (record { program = w; readable = used-readable (h .3) d; function = x .element; sentence = y .element; owns = record { function = x .is; sentence = y .is; from = i .from; upto = omega (arith, e, c .before .before .loop-test .taken) } }, h .2, omega (arith, i .short, i .from, s .pre .3 w d, end-is (c .before .before .before .before .before .before) w d, c .before .before .loop-test .taken), h .1)
 
 add-s : tie.Need-add-s Inv-loop μ-loop
 add-s c = let d = c .before .before .before .before .before .before .before .before .before .before .before .before .before .before .before .before .pre .0 .readable .indexed in omega (arith, sentence-below (c .before .before .before .before .before .before .before .before) (c .before .before .before .before .before .before .before .loop-test .taken), d .fits, d .small)

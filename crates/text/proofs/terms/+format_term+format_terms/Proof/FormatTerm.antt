@@ -3,7 +3,7 @@ use Prim.Native.Nat.{ℕ}
 use native.Mathlib.Omega.{arith}
 use mathlib.Core.List.{[], _∷_, _++_}
 use borrow.Author.Needs.{needs}
-use Rattle.overlap.proofs.Readings.{part-length, pattern-room}
+use Rattle.rows.proofs.Readings.{part-length, pattern-room}
 use Rattle.meaning.specs.Text.{formatTerms}
 use Rattle.text.proofs.Fill.{emitted-same, emitted-append}
 use Rattle.text.proofs.Formatting.{bracket-in, symbol-in, variable-in, terms-text-fits}

@@ -7,7 +7,7 @@ use lib.ListN.{length, getD}
 use Rattle.program.specs.Limits.{Mode}
 use Rattle.image.specs.Parts.{TermsAt}
 use Rattle.image.proofs.Readings.{result-at}
-use Rattle.overlap.proofs.Readings.{part-length, pattern-room, next-at, next-fits}
+use Rattle.rows.proofs.Readings.{part-length, pattern-room, next-at, next-fits}
 use Rattle.text.specs.Fill.{limit}
 use Rattle.text.proofs.Formatting.{Writing, writing-first, writing-next, writing-last, term-text-fits, gap-before-length}
 use Rattle.text.proofs.terms.format_terms.Reads as format-terms

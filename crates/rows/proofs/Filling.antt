@@ -339,37 +339,37 @@ module _ {b m now : List ℕ} {xs a ys n row : ℕ} (h : Lists b m xs a ys n row
 
 -- ---- two patterns listed one behind the other
 
--- x and y, from `from` and `ys` on, with room for a row behind them: either may have it.
-pub record Both (b m : List ℕ) (from ys row : ℕ) (x y : Terms) : Type 0 where
+-- x and y, from `from` and `at` on, with room for a row behind them: either may have it.
+pub record Both (b m : List ℕ) (from ys at row : ℕ) (x y : Terms) : Type 0 where
   pub first-is : listedAt b m from ≡ x
-  pub second-is : listedAt b m ys ≡ y
-  pub lists : Lists b m from (ys - from) ys (row - ys) row
-  pub turned : Lists b m ys (row - ys) from (ys - from) row
+  pub second-is : listedAt b m at ≡ y
+  pub lists : Lists b m from (ys - from) at (row - at) row
+  pub turned : Lists b m at (row - at) from (ys - from) row
 
-pub both-listed : {b old m : List ℕ} {from ys row : ℕ} {x y : Terms} → length b ≤ 32768 → (from ≤ ys) × (ys ≤ length old) × Listed b old from (ys - from) x → Kept ys old m
-    → (ys ≤ row) × (row ≤ length m) × Listed b m ys (row - ys) y → (view x ≡ View.nothing → ⊥) → (view y ≡ View.nothing → ⊥) → Both b m from ys row x y
-both-listed {b} {old} {m} {from} {ys} {row} {x} {y} f g k h d e =
+pub both-listed : {b old m : List ℕ} {from ys at row : ℕ} {x y : Terms} → length b ≤ 32768 → (from ≤ ys) × (ys ≤ length old) × Listed b old from (ys - from) x → Kept ys old m
+    → (at ≤ row) × (ys ≤ row) × (row ≤ length m) × Listed b m at (row - at) y → (view x ≡ View.nothing → ⊥) → (view y ≡ View.nothing → ⊥) → Both b m from ys at row x y
+both-listed {b} {old} {m} {from} {ys} {at} {row} {x} {y} f g k h d e =
     let first : Listed b m from (ys - from) x = listed-kept (omega (arith, g .0)) k (g .2) in
     let a : 0 < ys - from = some-listed first d in
-    let n : 0 < row - ys = some-listed (h .2) e in
+    let n : 0 < row - at = some-listed (h .3) e in
     let i : listedAt b m from ≡ x = first-listed first a in
-    let j : listedAt b m ys ≡ y = first-listed (h .2) n in
+    let j : listedAt b m at ≡ y = first-listed (h .3) n in
     let u : Listed b m from (ys - from) (listedAt b m from) = subst (λ (t : Terms). Listed b m from (ys - from) t) (sym i) first in
-    let v : Listed b m ys (row - ys) (listedAt b m ys) = subst (λ (t : Terms). Listed b m ys (row - ys) t) (sym j) (h .2) in
-    let o : from + (ys - from) ≤ row = omega (arith, g .0, h .0) in
-    let p : ys + (row - ys) ≤ row = omega (arith, h .0) in
+    let v : Listed b m at (row - at) (listedAt b m at) = subst (λ (t : Terms). Listed b m at (row - at) t) (sym j) (h .3) in
+    let o : from + (ys - from) ≤ row = omega (arith, g .0, h .1) in
+    let p : at + (row - at) ≤ row = omega (arith, h .0) in
     record {
       first-is = i;
       second-is = j;
-      lists = record { few = f; first = u; second = v; some = (a, n); before = (o, p); within = h .1 };
-      turned = record { few = f; first = v; second = u; some = (n, a); before = (p, o); within = h .1 };
+      lists = record { few = f; first = u; second = v; some = (a, n); before = (o, p); within = h .2 };
+      turned = record { few = f; first = v; second = u; some = (n, a); before = (p, o); within = h .2 };
     }
 
-module _ {b m : List ℕ} {from ys row : ℕ} {x y : Terms} (k : Both b m from ys row x y) where
-  pub both-told : (w : ℕ) → PairTold (listedAt b m from) (listedAt b m ys) w → PairTold x y w
+module _ {b m : List ℕ} {from ys at row : ℕ} {x y : Terms} (k : Both b m from ys at row x y) where
+  pub both-told : (w : ℕ) → PairTold (listedAt b m from) (listedAt b m at) w → PairTold x y w
   both-told w t = subst (λ (u : Terms). PairTold u y w) (k .first-is) (subst (λ (u : Terms). PairTold (listedAt b m from) u w) (k .second-is) t)
 
   -- In the other order.
-  pub both-turned : (w r : ℕ) → r ≡ both (high w) (low w) → ((w ≡ 0 → ⊥) → PairTold (listedAt b m ys) (listedAt b m from) w) → (r ≡ 0 → ⊥) → PairTold x y r
+  pub both-turned : (w r : ℕ) → r ≡ both (high w) (low w) → ((w ≡ 0 → ⊥) → PairTold (listedAt b m at) (listedAt b m from) w) → (r ≡ 0 → ⊥) → PairTold x y r
   both-turned w r e t n =
-      both-told r (subst (λ (u : ℕ). PairTold (listedAt b m from) (listedAt b m ys) u) (sym e) (turned-told (t (λ z. n (e ∙ ap (λ (u : ℕ). both (high u) (low u)) z)))))
+      both-told r (subst (λ (u : ℕ). PairTold (listedAt b m from) (listedAt b m at) u) (sym e) (turned-told (t (λ z. n (e ∙ ap (λ (u : ℕ). both (high u) (low u)) z)))))

@@ -11,6 +11,7 @@ use crate::numbers::turn;
 use crate::terms::close_behind;
 use crate::terms::flat_heads;
 use crate::terms::leftover;
+use crate::terms::list_second;
 use crate::terms::list_terms;
 ghost use mathlib.Core.Path.{_≡_};
 ghost use mathlib.Core.Bool.{true};
@@ -183,14 +184,16 @@ pub fn table_of(b: &[u8], p: usize, q: usize, from: usize, room: &mut [u32]) -> 
     if ys == 0 {
         return 0;
     }
-    let row = list_terms(b, q, ys, room);
+    let second = list_second(b, p, q, from, ys, room);
+    let row = second.row;
     if row == 0 {
         return 0;
     }
+    let other = second.at;
     let a = ys - from;
-    let n = row - ys;
+    let n = row - other;
     if n <= a {
-        return fill_table(b, from, a, ys, n, row, room);
+        return fill_table(b, from, a, other, n, row, room);
     }
-    turn(fill_table(b, ys, n, from, a, row, room))
+    turn(fill_table(b, other, n, from, a, row, room))
 }

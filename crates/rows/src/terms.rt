@@ -85,3 +85,30 @@ pub fn list_terms(b: &[u8], p: usize, at: usize, room: &mut [u32]) -> usize
     }
     k
 }
+
+// Where the list of a second pattern begins, and the entry behind both lists, or 0 if there are too few.
+pub struct Second {
+    pub at: usize,
+    pub row: usize,
+}
+
+// The list of the pattern at q behind that of the pattern at p, which stands from `from` up to `at`; if the two are one pattern,
+// that list serves for both, so that a sentence compared with itself takes no more than its own bytes pay for.
+pub fn list_second(
+    b: &[u8],
+    p: usize,
+    q: usize,
+    from: usize,
+    at: usize,
+    room: &mut [u32],
+) -> Second
+    requires { ⌜ PatternFrom (now b) q × (length (now b) ≤ 32768) × (from ≤ at) × (at ≤ length (now room)) × Listed (now b) (now room) from (at - from) (readAt (now b) p) ⌝ }
+    ensures lists { λ r. ⌜ ((r .row ≡ 0 → ⊥) → (r .at ≤ r .row) × (at ≤ r .row) × (r .row ≤ length (now (room .exit))) × Listed (now (b .entry)) (now (room .exit)) (r .at) (r .row - r .at) (readAt (now (b .entry)) q)) ⌝ }
+    ensures keeps { λ _. ⌜ Kept at (now (room .entry)) (now (room .exit)) ⌝ }
+{
+    if p == q {
+        return Second { at: from, row: at };
+    }
+    let row = list_terms(b, q, at, room);
+    Second { at, row }
+}

@@ -26,4 +26,4 @@ pub +fill-row+fill-table+pair-at+table-of-spec : {M : Type 1} → statement M
     (λ t. pair-at-lts.spec (pair-at-claims t) (pair-at-at t) pair-at.Post
     (PairAt.shared-slice-read-m t) (PairAt.shared-slice-read-k t) (PairAt.absorb-both-requires t) (PairAt.returns t) (PairAt.absorb-first-requires t) (PairAt.returns-2 t) (PairAt.absorb-second-requires t) (PairAt.returns-3 t) (PairAt.flat-heads-requires t) (PairAt.behind-both-requires t) (PairAt.returns-4 t) (PairAt.flat-heads-requires-2 t) (PairAt.behind-both-requires-2 t) (PairAt.returns-5 t) (PairAt.add-table-of t) (PairAt.add-table-of-2 t) (PairAt.table-of-requires t) (PairAt.same-length t) (PairAt.returns-6 t) (PairAt.behind-both-requires-3 t) (PairAt.same-length-2 t) (PairAt.returns-7 t))
     (λ t. table-of-lts.spec (table-of-claims t) (table-of-at t) table-of.Post
-    (TableOf.shared-slice-read-if1 t) (TableOf.leftover-requires t) (TableOf.returns t) (TableOf.shared-slice-read-if2 t) (TableOf.leftover-requires-2 t) (TableOf.returns-2 t) (TableOf.list-terms-requires t) (TableOf.same-length t) (TableOf.returns-3 t) (TableOf.list-terms-requires-2 t) (TableOf.same-length-2 t) (TableOf.returns-4 t) (TableOf.sub-a t) (TableOf.sub-n t) (TableOf.fill-table-requires t) (TableOf.same-length-3 t) (TableOf.returns-5 t) (TableOf.fill-table-requires-2 t) (TableOf.turn-requires t) (TableOf.same-length-4 t) (TableOf.returns-6 t))
+    (TableOf.shared-slice-read-if1 t) (TableOf.leftover-requires t) (TableOf.returns t) (TableOf.shared-slice-read-if2 t) (TableOf.leftover-requires-2 t) (TableOf.returns-2 t) (TableOf.list-terms-requires t) (TableOf.same-length t) (TableOf.returns-3 t) (TableOf.list-second-requires t) (TableOf.same-length-2 t) (TableOf.returns-4 t) (TableOf.sub-a t) (TableOf.sub-n t) (TableOf.fill-table-requires t) (TableOf.same-length-3 t) (TableOf.returns-5 t) (TableOf.fill-table-requires-2 t) (TableOf.turn-requires t) (TableOf.same-length-4 t) (TableOf.returns-6 t))

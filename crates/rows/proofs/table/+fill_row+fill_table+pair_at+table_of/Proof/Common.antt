@@ -29,6 +29,7 @@ use Rattle.rows.proofs.table.put_words.Reads as put-words-reads
 use Rattle.rows.proofs.terms.close_behind.Reads as close-behind-reads
 use Rattle.rows.proofs.terms.flat_heads.Reads as flat-heads-reads
 use Rattle.rows.proofs.terms.leftover.Reads as leftover-reads
+use Rattle.rows.proofs.terms.list_second.Reads as list-second-reads
 use Rattle.rows.proofs.terms.list_terms.Reads as list-terms-reads
 
 abbrev pub μ-fill-row : Measures 2 fill-row-kinds.ps ℕ
@@ -78,4 +79,4 @@ abbrev pub pair-at-claims : ℕ → pair-at-lts.Claims
 pair-at-claims t = (absorb-both-reads.Asked, absorb-both-reads.Learnt, absorb-first-reads.Asked, absorb-first-reads.Learnt, absorb-second-reads.Asked, absorb-second-reads.Learnt, flat-heads-reads.Asked, flat-heads-reads.Learnt, behind-both-reads.Asked, behind-both-reads.Learnt, table-of-below t, table-of.Post)
 
 abbrev pub table-of-claims : ℕ → table-of-lts.Claims
-table-of-claims t = (leftover-reads.Asked, leftover-reads.Learnt, list-terms-reads.Asked, list-terms-reads.Learnt, fill-table-below t, fill-table.Post, turn-reads.Asked, turn-reads.Learnt)
+table-of-claims t = (leftover-reads.Asked, leftover-reads.Learnt, list-terms-reads.Asked, list-terms-reads.Learnt, list-second-reads.Asked, list-second-reads.Learnt, fill-table-below t, fill-table.Post, turn-reads.Asked, turn-reads.Learnt)

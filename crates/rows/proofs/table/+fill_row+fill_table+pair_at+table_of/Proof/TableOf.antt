@@ -51,60 +51,63 @@ module _ (t : ℕ) where
   pub returns-3 : lts.Need-returns-3 (claims t) (at t) table-of.Post
   returns-3 c = (λ n. absurd (n refl), (c .before .before .before) .list-terms .ensures .1)
 
-  pub list-terms-requires-2 : lts.Need-list-terms-requires-2 (claims t) (at t) table-of.Post
-  list-terms-requires-2 c κs = ((c .before .before .before .before .before .before .before .before .before .before .before .before) .pre .1 .1, (c .before .before .before .before .before .before .before .before .before .before .before .before) .pre .1 .2)
+  pub list-second-requires : lts.Need-list-second-requires (claims t) (at t) table-of.Post
+  list-second-requires c κs =
+      let s = (c .before .before .before .before .before .before .before .before .before .before .before .before) .pre .1 in
+      let l = (c .before .before .before .before) .list-terms .ensures .0 ((c .before) .if3 .left) in
+      (s .1, s .2, l .0, l .1, l .2)
 
   pub same-length-2 : lts.Need-same-length-2 (claims t) (at t) table-of.Post
-  same-length-2 c = (c .before .before .before) .list-terms2 .ensures .1 .length ∙ (c .before .before .before .before .before .before .before .before) .list-terms .ensures .1 .length
+  same-length-2 c = (c .before .before .before) .list-second .ensures .1 .length ∙ (c .before .before .before .before .before .before .before .before) .list-terms .ensures .1 .length
 
   pub returns-4 : lts.Need-returns-4 (claims t) (at t) table-of.Post
-  returns-4 c = (λ n. absurd (n refl), kept-then ((c .before .before .before .before .before .before .before .before) .list-terms .ensures .1) (kept-less ((c .before .before .before .before .before .before .before .before) .list-terms .ensures .0 ((c .before .before .before .before .before) .if3 .left) .0) ((c .before .before .before) .list-terms2 .ensures .1)))
+  returns-4 c = (λ n. absurd (n refl), kept-then ((c .before .before .before .before .before .before .before .before) .list-terms .ensures .1) (kept-less ((c .before .before .before .before .before .before .before .before) .list-terms .ensures .0 ((c .before .before .before .before .before) .if3 .left) .0) ((c .before .before .before) .list-second .ensures .1)))
 
   pub sub-a : lts.Need-sub-a (claims t) (at t) table-of.Post
   sub-a c = (c .before .before .before .before .before .before .before .before) .list-terms .ensures .0 ((c .before .before .before .before .before) .if3 .left) .0
 
   pub sub-n : lts.Need-sub-n (claims t) (at t) table-of.Post
-  sub-n c = (c .before .before .before) .list-terms2 .ensures .0 (c .if4 .left) .0
+  sub-n c = (c .before .before .before) .list-second .ensures .0 (c .if4 .left) .0
 
   pub fill-table-requires : lts.Need-fill-table-requires (claims t) (at t) table-of.Post
   fill-table-requires c κs =
       let s = (c .before .before .before .before .before .before .before .before .before .before .before .before .before .before .before .before .before .before) .pre .1 in
-      let k = both-listed (s .2) ((c .before .before .before .before .before .before .before .before .before .before) .list-terms .ensures .0 ((c .before .before .before .before .before .before .before) .if3 .left)) ((c .before .before .before .before .before) .list-terms2 .ensures .1) ((c .before .before .before .before .before) .list-terms2 .ensures .0 ((c .before .before) .if4 .left)) (place-some (s .0) ((c .before .before .before .before .before .before .before .before .before .before .before .before .before .before) .if1 .left)) (place-some (s .1) ((c .before .before .before .before .before .before .before .before .before .before .before .before) .if2 .left)) in
+      let k = both-listed (s .2) ((c .before .before .before .before .before .before .before .before .before .before) .list-terms .ensures .0 ((c .before .before .before .before .before .before .before) .if3 .left)) ((c .before .before .before .before .before) .list-second .ensures .1) ((c .before .before .before .before .before) .list-second .ensures .0 ((c .before .before) .if4 .left)) (place-some (s .0) ((c .before .before .before .before .before .before .before .before .before .before .before .before .before .before) .if1 .left)) (place-some (s .1) ((c .before .before .before .before .before .before .before .before .before .before .before .before) .if2 .left)) in
       (omega (arith, (c .before .before .before .before .before .before .before .before .before .before .before .before .before .before .before .before .before .before) .pre .0, ap size (k .first-is), ap size (k .second-is)), k .lists)
 
   pub same-length-3 : lts.Need-same-length-3 (claims t) (at t) table-of.Post
-  same-length-3 c = (c .before .before) .fill-table .ensures .1 .length ∙ (c .before .before .before .before .before .before .before .before) .list-terms2 .ensures .1 .length ∙ (c .before .before .before .before .before .before .before .before .before .before .before .before .before) .list-terms .ensures .1 .length
+  same-length-3 c = (c .before .before) .fill-table .ensures .1 .length ∙ (c .before .before .before .before .before .before .before .before) .list-second .ensures .1 .length ∙ (c .before .before .before .before .before .before .before .before .before .before .before .before .before) .list-terms .ensures .1 .length
 
   pub returns-5 : lts.Need-returns-5 (claims t) (at t) table-of.Post
   returns-5 c =
       let s = (c .before .before .before .before .before .before .before .before .before .before .before .before .before .before .before .before .before .before .before .before .before) .pre .1 in
       let f = (c .before .before .before .before .before .before .before .before .before .before .before .before .before) .list-terms .ensures in
-      let g = (c .before .before .before .before .before .before .before .before) .list-terms2 .ensures in
+      let g = (c .before .before .before .before .before .before .before .before) .list-second .ensures in
       let o = (c .before .before) .fill-table in
       let d = f .0 ((c .before .before .before .before .before .before .before .before .before .before) .if3 .left) in
       let e = g .0 ((c .before .before .before .before .before) .if4 .left) in
       let k = both-listed (s .2) d (g .1) e (place-some (s .0) ((c .before .before .before .before .before .before .before .before .before .before .before .before .before .before .before .before .before) .if1 .left)) (place-some (s .1) ((c .before .before .before .before .before .before .before .before .before .before .before .before .before .before .before) .if2 .left)) in
-      (λ n. both-told k (o .result) (o .ensures .0 n), kept-then (f .1) (kept-then (kept-less (d .0) (g .1)) (kept-less (omega (arith, d .0, e .0)) (o .ensures .1))))
+      (λ n. both-told k (o .result) (o .ensures .0 n), kept-then (f .1) (kept-then (kept-less (d .0) (g .1)) (kept-less (omega (arith, d .0, e .1)) (o .ensures .1))))
 
   pub fill-table-requires-2 : lts.Need-fill-table-requires-2 (claims t) (at t) table-of.Post
   fill-table-requires-2 c κs =
       let s = (c .before .before .before .before .before .before .before .before .before .before .before .before .before .before .before .before .before .before) .pre .1 in
-      let k = both-listed (s .2) ((c .before .before .before .before .before .before .before .before .before .before) .list-terms .ensures .0 ((c .before .before .before .before .before .before .before) .if3 .left)) ((c .before .before .before .before .before) .list-terms2 .ensures .1) ((c .before .before .before .before .before) .list-terms2 .ensures .0 ((c .before .before) .if4 .left)) (place-some (s .0) ((c .before .before .before .before .before .before .before .before .before .before .before .before .before .before) .if1 .left)) (place-some (s .1) ((c .before .before .before .before .before .before .before .before .before .before .before .before) .if2 .left)) in
+      let k = both-listed (s .2) ((c .before .before .before .before .before .before .before .before .before .before) .list-terms .ensures .0 ((c .before .before .before .before .before .before .before) .if3 .left)) ((c .before .before .before .before .before) .list-second .ensures .1) ((c .before .before .before .before .before) .list-second .ensures .0 ((c .before .before) .if4 .left)) (place-some (s .0) ((c .before .before .before .before .before .before .before .before .before .before .before .before .before .before) .if1 .left)) (place-some (s .1) ((c .before .before .before .before .before .before .before .before .before .before .before .before) .if2 .left)) in
       (omega (arith, (c .before .before .before .before .before .before .before .before .before .before .before .before .before .before .before .before .before .before) .pre .0, ap size (k .first-is), ap size (k .second-is)), k .turned)
 
   pub turn-requires : lts.Need-turn-requires (claims t) (at t) table-of.Post
   turn-requires c κs = tt
 
   pub same-length-4 : lts.Need-same-length-4 (claims t) (at t) table-of.Post
-  same-length-4 c = (c .before .before .before) .fill-table2 .ensures .1 .length ∙ (c .before .before .before .before .before .before .before .before .before) .list-terms2 .ensures .1 .length ∙ (c .before .before .before .before .before .before .before .before .before .before .before .before .before .before) .list-terms .ensures .1 .length
+  same-length-4 c = (c .before .before .before) .fill-table2 .ensures .1 .length ∙ (c .before .before .before .before .before .before .before .before .before) .list-second .ensures .1 .length ∙ (c .before .before .before .before .before .before .before .before .before .before .before .before .before .before) .list-terms .ensures .1 .length
 
   pub returns-6 : lts.Need-returns-6 (claims t) (at t) table-of.Post
   returns-6 c =
       let s = (c .before .before .before .before .before .before .before .before .before .before .before .before .before .before .before .before .before .before .before .before .before .before) .pre .1 in
       let f = (c .before .before .before .before .before .before .before .before .before .before .before .before .before .before) .list-terms .ensures in
-      let g = (c .before .before .before .before .before .before .before .before .before) .list-terms2 .ensures in
+      let g = (c .before .before .before .before .before .before .before .before .before) .list-second .ensures in
       let o = (c .before .before .before) .fill-table2 in
       let d = f .0 ((c .before .before .before .before .before .before .before .before .before .before .before) .if3 .left) in
       let e = g .0 ((c .before .before .before .before .before .before) .if4 .left) in
       let k = both-listed (s .2) d (g .1) e (place-some (s .0) ((c .before .before .before .before .before .before .before .before .before .before .before .before .before .before .before .before .before .before) .if1 .left)) (place-some (s .1) ((c .before .before .before .before .before .before .before .before .before .before .before .before .before .before .before .before) .if2 .left)) in
-      (both-turned k (o .result) (c .turn .result) (c .turn .ensures) (o .ensures .0), kept-then (f .1) (kept-then (kept-less (d .0) (g .1)) (kept-less (omega (arith, d .0, e .0)) (o .ensures .1))))
+      (both-turned k (o .result) (c .turn .result) (c .turn .ensures) (o .ensures .0), kept-then (f .1) (kept-then (kept-less (d .0) (g .1)) (kept-less (omega (arith, d .0, e .1)) (o .ensures .1))))

@@ -19,7 +19,7 @@ ghost use Rattle.overlap.specs.Steps.{isOverlap, isDisjoint, remembered,
 const OVERLAP_FUEL: u32 = 4096;
 
 // What the cycle may use before the rows take over: so many entries in all, so many brackets and splits inside one another.
-const ENTRIES: u32 = 512;
+const ENTRIES: u32 = 64;
 
 const DEPTH: u32 = 12;
 

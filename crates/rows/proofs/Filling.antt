@@ -13,9 +13,9 @@ use Rattle.image.specs.Parts.{tail}
 use Rattle.patterns.specs.Search.{View, view, leftoverOverlap, size}
 use Rattle.patterns.proofs.Unfold.{leftover-view}
 use Rattle.rows.specs.Cells.{endsOf, low, high, both, endedBoth, PairTold, SplitsTold}
-use Rattle.rows.specs.Rows.{readAt, listedAt, behindTerms, closing, Stands, Listed, Kept, Cells, Row, Lies, Beside, Above, Lists}
-use Rattle.rows.proofs.Words.{turned-told, closed-first, closed-second, ends-both, ends-row, ends-column, ends-corner}
-use Rattle.rows.proofs.Sizes.{stands-size}
+use Rattle.rows.specs.Rows.{readAt, listedAt, behindTerms, closing, Stands, Listed, Kept, Cells, Row, Lies, Beside, Above, Lists, RoomFor, RowRoom, TableRoom}
+use Rattle.rows.proofs.Words.{told-some, turned-told, closed-first, closed-second, ends-both, ends-row, ends-column, ends-corner}
+use Rattle.rows.proofs.Sizes.{stands-size, listed-size, inside-size}
 use Rattle.rows.proofs.Places.{place-some, kept-same, kept-then, kept-less}
 use Rattle.rows.proofs.Lists.{closing-next, kept-set, first-listed, some-listed}
 
@@ -215,6 +215,11 @@ module _ {b m now : List ℕ} {p ys n row beneath side j d t : ℕ} {y : Terms} 
         right-told = subst (λ (v : Terms). SplitsTold x (tail v) t) (sym (s .is)) right-here;
       }
 
+  pub filling-room : RowRoom b m p ys n row → RoomFor b (length now) (row + 2 * n) p q
+  filling-room k =
+      subst (λ (u : ℕ). RoomFor b (length now) (row + 2 * n) p u) (sym (e ∙ r .kept .below (ys + (j - 1)) (omega (arith, h .lies .before, r .within, l))))
+      (subst (λ (u : ℕ). RoomFor b u (row + 2 * n) p (getD m (ys + (j - 1)) 0)) (sym (r .kept .length)) (k (j - 1) (omega (arith, r .within, l))))
+
   -- The pair in turn has the word w, the splits the word u, and both have been put into the row.
   pub filling-turn : (w u : ℕ) → PairTold x (readAt b q) w → u ≡ both (endsOf (low w) (low t)) (endsOf (high w) (high below)) → (mid : List ℕ) → Kept (row + 2 * n) now mid
       → (new : List ℕ) → new ≡ words mid (row + 2 * (j - 1)) w u → Filling b m new p n row (j - 1) under u y
@@ -267,6 +272,25 @@ module _ {b m now : List ℕ} {xs a ys n row : ℕ} (h : Lists b m xs a ys n row
 
   pub told-before : (w : ℕ) → PairTold (listedAt b now xs) (listedAt b now ys) w → PairTold (listedAt b m xs) (listedAt b m ys) w
   told-before w t = subst (λ (u : Terms). PairTold u (listedAt b m ys) w) (sym listed-first) (subst (λ (u : Terms). PairTold (listedAt b now xs) u w) (sym listed-now) t)
+
+  pub room-kept : TableRoom b m xs a ys n row → TableRoom b now xs a ys n row
+  room-kept t = (
+    omega (arith, t .0, k .length),
+    λ i l j g c d.
+        let e = k .below (xs + i) (omega (arith, l, h .before .0)) in
+        let f = k .below (ys + j) (omega (arith, g, h .before .1)) in
+        subst (λ (u : ℕ). RoomFor b (length now) (row + 2 * n) u (getD now (ys + j) 0)) (sym e)
+        (subst (λ (u : ℕ). RoomFor b (length now) (row + 2 * n) (getD m (xs + i) 0) u) (sym f)
+        (subst (λ (u : ℕ). RoomFor b u (row + 2 * n) (getD m (xs + i) 0) (getD m (ys + j) 0)) (sym (k .length)) (t .1 i l j g))) c d,
+  )
+
+-- Two entries for each term of two lists, from `base` on, are enough for a table of them.
+pub lists-room : {b m : List ℕ} {xs a ys n row : ℕ} → Lists b m xs a ys n row → (base : ℕ) → n ≤ a → row ≤ base + a + n
+    → base + 2 * (size (listedAt b m xs) + size (listedAt b m ys)) ≤ length m → TableRoom b m xs a ys n row
+lists-room h base l e f = (
+  omega (arith, l, e, f, listed-size (h .first), listed-size (h .second)),
+  λ i u j v c d. omega (arith, l, e, f, inside-size (h .first) i u c, inside-size (h .second) j v d),
+)
 
 pub lists-lie : {b m : List ℕ} {xs a ys n row : ℕ} → Lists b m xs a ys n row → row + 2 * n ≤ length m → Lies b m ys n row (listedAt b m ys)
 lists-lie h l = record { listed = h .second; before = h .before .1; fits = l }
@@ -373,3 +397,6 @@ module _ {b m : List ℕ} {from ys at row : ℕ} {x y : Terms} (k : Both b m fro
   pub both-turned : (w r : ℕ) → r ≡ both (high w) (low w) → ((w ≡ 0 → ⊥) → PairTold (listedAt b m at) (listedAt b m from) w) → (r ≡ 0 → ⊥) → PairTold x y r
   both-turned w r e t n =
       both-told r (subst (λ (u : ℕ). PairTold (listedAt b m from) (listedAt b m at) u) (sym e) (turned-told (t (λ z. n (e ∙ ap (λ (u : ℕ). both (high u) (low u)) z)))))
+
+  pub both-some : (w r : ℕ) → r ≡ both (high w) (low w) → ((w ≡ 0 → ⊥) → PairTold (listedAt b m at) (listedAt b m from) w) → (w ≡ 0 → ⊥) → r ≡ 0 → ⊥
+  both-some w r e t n z = told-some (turned-told (t n)) (sym e ∙ z)

@@ -15,8 +15,8 @@ use Rattle.symbols.specs.Parts.{SymbolAt}
 use Rattle.symbols.proofs.Parts.{part-rest}
 use Rattle.patterns.specs.declared.Verdict.the-variants.{Disjoint, Overlap}
 use Rattle.patterns.specs.Search.{One, View, view, literalOverlap, start, overlapOfTerms, sequence}
-use Rattle.rows.specs.Parts.{HeadAt, PatternIn, HeadIn}
-use Rattle.rows.proofs.Readings.{part, headMark, viewMark, pattern-mark, term-room, tail-part}
+use Rattle.rows.specs.Parts.{HeadAt}
+use Rattle.rows.proofs.Readings.{part, headMark, viewMark, pattern-mark, term-room}
 
 -- What stands in the bytes of a head; no call and no block stands in a pattern.
 abbrev HeadBytes : List ℕ → One → Type 0
@@ -176,7 +176,3 @@ module _ {a b : List ℕ} (x : HeadAt a) (y : HeadAt b) where
   pub two-literals : (m : LiteralAt x) (n : LiteralAt y) → overlapOfTerms sequence (x .head) (y .head) ≡ literalOverlap (sameSymbol (m .symbol .symbol) (n .symbol .symbol))
   unfolding overlapOfTerms
   two-literals m n = ap₂ (overlapOfTerms sequence) (m .is) (n .is)
-
--- What a bracket in a tail holds.
-abbrev pub inner-in : {b s : List ℕ} (h : HeadIn b s) → BracketAt (h .head) → PatternIn b (part s 9)
-inner-in h k = record { tail = tail-part (h .tail) 9 (omega (arith, head-room (h .head))); pattern = k .inner }

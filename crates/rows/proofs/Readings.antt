@@ -13,7 +13,7 @@ use Rattle.image.specs.Parts.{Passes, TermsAt, tail}
 use Rattle.program.proofs.Lengths.{span-length, name-length, symbol-length, terms-length}
 use Rattle.symbols.proofs.Parts.{part-rest}
 use Rattle.patterns.specs.Search.{One, View, view}
-use Rattle.rows.specs.Parts.{TailOf, placeOf, HeadAt, PatternIn, HeadIn}
+use Rattle.rows.specs.Parts.{TailOf, placeOf, HeadAt, PatternIn}
 
 -- What the part `&s[i..]` holds.
 abbrev pub part : List ℕ → ℕ → List ℕ
@@ -169,16 +169,7 @@ inside b p x = omega (arith, pattern-room x, length-drop p b)
 abbrev pub at-part : (b : List ℕ) (p : ℕ) → TermsAt Mode.pattern (drop p b) → TermsAt Mode.pattern (part b p)
 at-part b p x = record { terms = x .terms; rest = x .rest; is = part-rest b p ∙ x .is; valid = x .valid }
 
--- A pattern stands at a place by whatever name.
-abbrev pub moved : (b : List ℕ) (i j : ℕ) → i ≡ j → TermsAt Mode.pattern (drop j b) → TermsAt Mode.pattern (drop i b)
-moved b i j e x = record { terms = x .terms; rest = x .rest; is = ap (λ (k : ℕ). drop k b) e ∙ x .is; valid = x .valid }
-
--- The part of a tail from k on, and that of the body from a place on.
-pub tail-part : {b s : List ℕ} → TailOf b s → (k : ℕ) → k ≤ length s → TailOf b (part s k)
-tail-part {b} {s} t k l =
-    let e : placeOf b s + k ≡ placeOf b (part s k) = omega (arith, part-length s k, t .fits) in
-    record { fits = omega (arith, part-length s k, t .fits); is = part-rest s k ∙ ap (drop k) (t .is) ∙ drop-drop k (placeOf b s) b ∙ ap (λ (n : ℕ). drop n b) e }
-
+-- The part of the body from a place on is a tail of it.
 pub tail-at : (b : List ℕ) (p : ℕ) → p ≤ length b → TailOf b (part b p)
 tail-at b p l =
     let e : p ≡ placeOf b (part b p) = omega (arith, part-length b p) in
@@ -187,25 +178,11 @@ tail-at b p l =
 abbrev pub pattern-at : (b : List ℕ) (p : ℕ) → TermsAt Mode.pattern (drop p b) → PatternIn b (part b p)
 pattern-at b p x = record { tail = tail-at b p (omega (arith, inside b p x)); pattern = at-part b p x }
 
--- What stands at the start of a tail stands at its place, and back.
+-- What stands at the start of a tail stands at its place.
 abbrev pub in-body : {b s : List ℕ} → TailOf b s → TermsAt Mode.pattern s → TermsAt Mode.pattern (drop (placeOf b s) b)
 in-body t x = record { terms = x .terms; rest = x .rest; is = sym (t .is) ∙ x .is; valid = x .valid }
 
-abbrev pub on-tail : {b s : List ℕ} → TailOf b s → TermsAt Mode.pattern (drop (placeOf b s) b) → TermsAt Mode.pattern s
-on-tail t x = record { terms = x .terms; rest = x .rest; is = t .is ∙ x .is; valid = x .valid }
-
--- A place of a tail with a pattern is small, since the body is.
-pub place-small : {b s : List ℕ} → PatternIn b s → length b ≤ 32768 → placeOf b s < 32768
-place-small p l = omega (arith, l, p .tail .fits, pattern-room (p .pattern))
-
--- The pattern after the first term of a tail, which n bytes hold.
-abbrev pub next-in : {b s : List ℕ} (p : PatternIn b s) (n : ℕ) → Passes s n (putTerms (tail (p .pattern .terms)) (p .pattern .rest)) → PatternIn b (part s n)
-next-in p n h = record { tail = tail-part (p .tail) n (h .fits); pattern = rest-at (p .pattern) n h }
-
-abbrev pub head-in : {b s : List ℕ} (p : PatternIn b s) → (getD s 0 0 ≡ 15 → ⊥) → (getD s 0 0 ≡ 6 → ⊥) → HeadIn b s
-head-in p m n = record { tail = p .tail; head = head-at (p .pattern) m n }
-
--- The same by places: the length of a term in the part from a place gives the place after it.
+-- The length of a term in the part from a place gives the place after it.
 pub place-after : (b : List ℕ) (i n : ℕ) (p : TermsAt Mode.pattern (drop i b)) → Passes (part b i) n (putTerms (tail (p .terms)) (p .rest)) → drop (i + n) b ≡ putTerms (tail (p .terms)) (p .rest)
 place-after b i n p h = sym (drop-drop n i b) ∙ sym (ap (drop n) (part-rest b i)) ∙ h .left
 

@@ -13,7 +13,7 @@ use Rattle.patterns.proofs.Unfold.{no-fuel, absorbing-begins, one-begins, empty
 use Rattle.rows.specs.Cells.{codeOf, Cell, spent, behindOf, endsOf, low, high, both, endedBoth, PairTold, SplitsTold}
 use Rattle.rows.specs.Rows.{HeadsTold}
 use Rattle.rows.proofs.Costs.{too-little, enough, either}
-use Rattle.rows.proofs.Cells.{spent-cell, ended-cell, behind-cell, ends-cell}
+use Rattle.rows.proofs.Cells.{code-low, spent-cell, ended-cell, behind-cell, ends-cell}
 
 -- A cell is below 65,536.
 small : {s : ℕ → Found} {n : ℕ} → Cell s n → n < 65536
@@ -39,6 +39,13 @@ splits-both {x} {y} {c} {d} k h = record {
 
 pub turned-told : {x y : Terms} {w : ℕ} → PairTold x y w → PairTold y x (both (high w) (low w))
 turned-told t = pair-both (t .second) (t .first)
+
+-- A word that tells something is not 0.
+pub told-low : {x y : Terms} {w : ℕ} → PairTold x y w → low w ≡ 0 → ⊥
+told-low {x} {y} {w} t e = omega (arith, code-low (t .first .verdict), t .first .code, e)
+
+pub told-some : {x y : Terms} {w : ℕ} → PairTold x y w → w ≡ 0 → ⊥
+told-some t e = told-low t (ap low e)
 
 -- One of the two is empty.
 module _ (x y : Terms) where

@@ -1,5 +1,5 @@
 -- Tails of a body: "the rest of a pattern is the same image from a later byte".
-use Prim.Native.Nat.{ℕ, _+_, _-_, _≤_}
+use Prim.Native.Nat.{ℕ, _-_, _≤_}
 use mathlib.Core.Path.{_≡_}
 use mathlib.Core.List.{List}
 use lib.ListN.{length, drop}
@@ -16,10 +16,6 @@ pub record TailOf (b s : List ℕ) : Type 0 where
   pub fits : length s ≤ length b
   pub is : s ≡ drop (placeOf b s) b
 
--- The bytes of the tails from two places on.
-abbrev pub behindPlaces : List ℕ → ℕ → ℕ → ℕ
-behindPlaces b p q = (length b - p) + (length b - q)
-
 -- A pattern that begins with a term other than an `e.` variable.
 pub record HeadAt (s : List ℕ) : Type 0 where
   pub pattern : TermsAt Mode.pattern s
@@ -27,11 +23,7 @@ pub record HeadAt (s : List ℕ) : Type 0 where
   pub rest : Terms
   pub is : view (pattern .terms) ≡ View.one head rest
 
--- Either at the start of a tail.
+-- A pattern at the start of a tail.
 pub record PatternIn (b s : List ℕ) : Type 0 where
   pub tail : TailOf b s
   pub pattern : TermsAt Mode.pattern s
-
-pub record HeadIn (b s : List ℕ) : Type 0 where
-  pub tail : TailOf b s
-  pub head : HeadAt s

@@ -9,7 +9,7 @@ use Rattle.program.specs.Syntax.{Terms, nil}
 use Rattle.program.specs.Limits.{Mode}
 use Rattle.program.specs.Automaton.{Stack, Read, run}
 use Rattle.image.specs.Parts.{TermsAt, tail}
-use Rattle.patterns.specs.Search.{One, View, view, overlapOfTerms, sequence}
+use Rattle.patterns.specs.Search.{One, View, view, overlapOfTerms, size, sequence}
 use Rattle.rows.specs.Cells.{codeOf, low, high, PairTold, SplitsTold}
 
 -- The terms at the start of s, if some stand there.
@@ -113,3 +113,14 @@ pub record Lists (b m : List ℕ) (xs a ys n row : ℕ) : Type 0 where
   pub some : (0 < a) × (0 < n)
   pub before : (xs + a ≤ row) × (ys + n ≤ row)
   pub within : row ≤ length m
+
+-- What two brackets hold, at p and at q, has room behind `top`: two entries for each of its terms.
+abbrev pub RoomFor : List ℕ → ℕ → ℕ → ℕ → ℕ → Type 0
+RoomFor b room top p q = getD b p 0 ≡ 7 → getD b q 0 ≡ 7 → top + 2 * (size (readAt b (p + 9)) + size (readAt b (q + 9))) ≤ room
+
+-- That of every pair of brackets of a row, and of a table.
+abbrev pub RowRoom : List ℕ → List ℕ → ℕ → ℕ → ℕ → ℕ → Type 0
+RowRoom b m p ys n row = (j : ℕ) → j < n → RoomFor b (length m) (row + 2 * n) p (getD m (ys + j) 0)
+
+abbrev pub TableRoom : List ℕ → List ℕ → ℕ → ℕ → ℕ → ℕ → ℕ → Type 0
+TableRoom b m xs a ys n row = (row + 2 * n ≤ length m) × ((i : ℕ) → i < a → RowRoom b m (getD m (xs + i) 0) ys n row)

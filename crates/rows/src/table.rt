@@ -14,13 +14,13 @@ use crate::terms::leftover;
 use crate::terms::list_second;
 use crate::terms::list_terms;
 ghost use mathlib.Core.Path.{_≡_};
-ghost use mathlib.Core.Bool.{true};
-ghost use Prim.Native.Nat.{_+_, _<_, _≤_};
+ghost use mathlib.Core.Bool.{true, false};
+ghost use Prim.Native.Nat.{_+_, _*_, _<_, _≤_};
 ghost use lib.ListN.{length, getD, set};
 ghost use Rattle.program.specs.Syntax.{Terms};
-ghost use Rattle.patterns.specs.Search.{View, view};
+ghost use Rattle.patterns.specs.Search.{View, view, size};
 ghost use Rattle.rows.specs.Cells.{PairTold};
-ghost use Rattle.rows.specs.Rows.{readAt, listedAt, PatternFrom, Kept, Row, Lies, Beside, Above, Lists};
+ghost use Rattle.rows.specs.Rows.{readAt, listedAt, PatternFrom, Kept, Row, Lies, Beside, Above, Lists, RoomFor, RowRoom, TableRoom};
 
 // Both orders of nothing and nothing: one entry, Overlap.
 const CORNER: u32 = 393222;
@@ -73,6 +73,7 @@ fn pair_at(
     requires { ⌜ Beside (now b) p q diagonal below right ⌝ }
     ensures tells { λ r. ⌜ ((r ≡ 0 → ⊥) → PairTold (readAt (now (b .entry)) p) (readAt (now (b .entry)) q) r) ⌝ }
     ensures keeps { λ _. ⌜ Kept top (now (room .entry)) (now (room .exit)) ⌝ }
+    ensures suffices { λ r. ⌜ (RoomFor (now (b .entry)) (length (now (room .entry))) top p q → r ≡ 0 → ⊥) ⌝ }
 {
     let m = b[p];
     let k = b[q];
@@ -112,6 +113,7 @@ fn fill_row(
     requires { ⌜ Above (now b) (now room) p ys n row beneath side (listedAt (now b) (now room) ys) ⌝ }
     ensures tells { λ r. ⌜ (r ≡ true → Row (now (room .exit)) row 0 n (readAt (now (b .entry)) p) (listedAt (now (b .entry)) (now (room .entry)) ys)) ⌝ }
     ensures keeps { λ _. ⌜ Kept row (now (room .entry)) (now (room .exit)) ⌝ }
+    ensures suffices { λ r. ⌜ (RowRoom (now (b .entry)) (now (room .entry)) p ys n row → r ≡ false → ⊥) ⌝ }
 {
     let top = row + 2 * n;
     let mut j = n;
@@ -147,6 +149,7 @@ fn fill_table(
     requires { ⌜ Lists (now b) (now room) xs a ys n row ⌝ }
     ensures tells { λ r. ⌜ ((r ≡ 0 → ⊥) → PairTold (listedAt (now (b .entry)) (now (room .entry)) xs) (listedAt (now (b .entry)) (now (room .entry)) ys) r) ⌝ }
     ensures keeps { λ _. ⌜ Kept row (now (room .entry)) (now (room .exit)) ⌝ }
+    ensures suffices { λ r. ⌜ (TableRoom (now (b .entry)) (now (room .entry)) xs a ys n row → r ≡ 0 → ⊥) ⌝ }
 {
     if room.len() < row + 2 * n {
         return 0;
@@ -173,6 +176,7 @@ pub fn table_of(b: &[u8], p: usize, q: usize, from: usize, room: &mut [u32]) -> 
     requires { ⌜ PatternFrom (now b) p × PatternFrom (now b) q × (length (now b) ≤ 32768) ⌝ }
     ensures tells { λ r. ⌜ ((r ≡ 0 → ⊥) → PairTold (readAt (now (b .entry)) p) (readAt (now (b .entry)) q) r) ⌝ }
     ensures keeps { λ _. ⌜ Kept from (now (room .entry)) (now (room .exit)) ⌝ }
+    ensures suffices { λ r. ⌜ (from + 2 * (size (readAt (now (b .entry)) p) + size (readAt (now (b .entry)) q)) ≤ length (now (room .entry)) → r ≡ 0 → ⊥) ⌝ }
 {
     if b[p] == 15 {
         return leftover(b, q);

@@ -2,9 +2,9 @@
 use image::part::term_len;
 use symbols::same_symbol;
 ghost use mathlib.Core.Path.{_≡_};
-ghost use Prim.Native.Nat.{_-_, _≤_};
-ghost use lib.ListN.{length};
-ghost use Rattle.patterns.specs.Search.{leftoverOverlap};
+ghost use Prim.Native.Nat.{_+_, _-_, _≤_};
+ghost use lib.ListN.{length, getD};
+ghost use Rattle.patterns.specs.Search.{leftoverOverlap, size};
 ghost use Rattle.rows.specs.Cells.{endedBoth};
 ghost use Rattle.rows.specs.Rows.{readAt, closing, PatternFrom, Flat, HeadsTold, Listed, Kept};
 
@@ -69,6 +69,7 @@ pub fn list_terms(b: &[u8], p: usize, at: usize, room: &mut [u32]) -> usize
     requires { ⌜ PatternFrom (now b) p × (length (now b) ≤ 32768) ⌝ }
     ensures lists { λ r. ⌜ ((r ≡ 0 → ⊥) → (at ≤ r) × (r ≤ length (now (room .exit))) × Listed (now (b .entry)) (now (room .exit)) at (r - at) (readAt (now (b .entry)) p)) ⌝ }
     ensures keeps { λ _. ⌜ Kept at (now (room .entry)) (now (room .exit)) ⌝ }
+    ensures suffices { λ r. ⌜ ((getD (now (b .entry)) p 0 ≡ 15 → ⊥) → at + size (readAt (now (b .entry)) p) ≤ length (now (room .entry)) → r ≡ 0 → ⊥) ⌝ }
 {
     if room.len() < at {
         return 0;
@@ -94,17 +95,11 @@ pub struct Second {
 
 // The list of the pattern at q behind that of the pattern at p, which stands from `from` up to `at`; if the two are one pattern,
 // that list serves for both, so that a sentence compared with itself takes no more than its own bytes pay for.
-pub fn list_second(
-    b: &[u8],
-    p: usize,
-    q: usize,
-    from: usize,
-    at: usize,
-    room: &mut [u32],
-) -> Second
-    requires { ⌜ PatternFrom (now b) q × (length (now b) ≤ 32768) × (from ≤ at) × (at ≤ length (now room)) × Listed (now b) (now room) from (at - from) (readAt (now b) p) ⌝ }
+pub fn list_second(b: &[u8], p: usize, q: usize, from: usize, at: usize, room: &mut [u32]) -> Second
+    requires { ⌜ PatternFrom (now b) q × (length (now b) ≤ 32768) × (from ≤ at) × (at ≤ length (now room)) × Listed (now b) (now room) from (at - from) (readAt (now b) p) × (at ≡ 0 → ⊥) ⌝ }
     ensures lists { λ r. ⌜ ((r .row ≡ 0 → ⊥) → (r .at ≤ r .row) × (at ≤ r .row) × (r .row ≤ length (now (room .exit))) × Listed (now (b .entry)) (now (room .exit)) (r .at) (r .row - r .at) (readAt (now (b .entry)) q)) ⌝ }
-    ensures keeps { λ _. ⌜ Kept at (now (room .entry)) (now (room .exit)) ⌝ }
+    ensures keeps { λ r. ⌜ Kept at (now (room .entry)) (now (room .exit)) × (r .at ≤ at) ⌝ }
+    ensures suffices { λ r. ⌜ ((getD (now (b .entry)) q 0 ≡ 15 → ⊥) → at + size (readAt (now (b .entry)) q) ≤ length (now (room .entry)) → r .row ≡ 0 → ⊥) ⌝ }
 {
     if p == q {
         return Second { at: from, row: at };

@@ -1,26 +1,34 @@
 -- `rows::terms::list_terms` meets its contract.
-use Prim.Native.Nat.{_+_, _-_, _<_, _≤_}
+use Prim.Native.Nat.{ℕ, _+_, _-_, _<_, _≤_}
 use native.Mathlib.Omega.{arith}
-use mathlib.Core.Path.{refl}
-use lib.ListN.{length, length-set}
+use mathlib.Core.Path.{_≡_, refl, ap, _∙_}
+use mathlib.Core.List.{List}
+use lib.ListN.{length, getD, length-set}
 use Rattle.program.specs.Limits.{Mode}
-use Rattle.rows.specs.Rows.{Kept}
-use Rattle.rows.proofs.Places.{reading-part, kept-same, kept-then}
+use Rattle.patterns.specs.Search.{size}
+use Rattle.rows.specs.Rows.{readAt, Kept}
+use Rattle.rows.proofs.Places.{reading-part, next-is, kept-same, kept-then}
 use Rattle.rows.proofs.Lists.{Listing, place-in, result-here, past-fits, kept-set, listing-first, listing-next, listing-done}
+use Rattle.rows.proofs.Sizes.{place-size}
 use Rattle.rows.proofs.terms.list_terms.Statement.{statement}
 use Rattle.rows.proofs.terms.list_terms.Tie as tie
 
+-- Nothing was listed: the pattern is at its close.
+closed-at : (b : List ℕ) {p q : ℕ} → p ≡ q → getD b q 0 ≡ 15 → getD b p 0 ≡ 15
+closed-at b e m = ap (λ (k : ℕ). getD b k 0) e ∙ m
+
 abbrev Inv-loop : tie.InvT-loop
 Inv-loop b p at room₀ q₀ k₀ room q k = (at ≤ k) × (k ≤ length room) × Kept at room₀ room × Listing b room p at k q
+    × (k + size (readAt b q) ≤ at + size (readAt b p)) × (at ≡ k → p ≡ q)
 
 abbrev μ-loop : tie.MeasureT-loop
 μ-loop b p at room₀ q₀ k₀ room q k = length b - q
 
 returns : tie.Need-returns Inv-loop μ-loop
-returns c = (λ n. absurd (n refl), kept-same ((c .before .before .before) .args .at) ((c .before .before .before) .args .room .now))
+returns c = (λ n. absurd (n refl), (kept-same ((c .before .before .before) .args .at) ((c .before .before .before) .args .room .now), λ d l e. omega (arith, l, c .if1 .taken)))
 
 loop-holds : tie.Need-loop-holds Inv-loop μ-loop
-loop-holds c = let s = (c .before .before .before) in (omega arith, c .if1 .left, kept-same (s .args .at) (s .args .room .now), listing-first (s .args .b .now) (s .args .room .now) (s .args .p) (s .args .at) (s .pre .0))
+loop-holds c = let s = (c .before .before .before) in (omega arith, c .if1 .left, kept-same (s .args .at) (s .args .room .now), listing-first (s .args .b .now) (s .args .room .now) (s .args .p) (s .args .at) (s .pre .0), omega arith, λ e. refl)
 
 shared-slice-read-if2 : tie.Need-shared-slice-read-if2 Inv-loop μ-loop
 shared-slice-read-if2 c = place-in ((c .before) .loop .inv .3 .from)
@@ -29,7 +37,9 @@ same-length : tie.Need-same-length Inv-loop μ-loop
 same-length c = (c .before .before .before) .loop .inv .2 .length
 
 returns-2 : tie.Need-returns-2 Inv-loop μ-loop
-returns-2 c = (λ n. absurd (n refl), (c .before .before .before) .loop .inv .2)
+returns-2 c =
+    let i = (c .before .before .before) .loop .inv in
+    (λ n. absurd (n refl), (i .2, λ d l e. omega (arith, l, c .if3 .taken, i .2 .length, i .4, place-size (i .3 .from) ((c .before) .if2 .taken))))
 
 cast-room : tie.Need-cast-room Inv-loop μ-loop
 cast-room c = omega (arith, place-in ((c .before .before .before) .loop .inv .3 .from), (c .before .before .before .before .before .before .before) .pre .1)
@@ -80,13 +90,15 @@ loop-again c =
       omega (arith, r, length-set m k q),
       kept-then (i .2) (kept-set ((c .before .before .before .before .before .before .before .before .before) .args .at) m k q (i .0)),
       listing-next (i .3) ((c .before .before .before) .if2 .taken) (i .0) r (c .term-len .result) (c .term-len .ensures Mode.pattern (reading-part (i .3 .from))),
+      omega (arith, i .4, place-size (i .3 .from) ((c .before .before .before) .if2 .taken), ap size (next-is (i .3 .from) (c .term-len .result) (c .term-len .ensures Mode.pattern (reading-part (i .3 .from))))),
+      λ e. absurd (omega (arith, e, i .0)),
     )
 
 same-length-2 : tie.Need-same-length-2 Inv-loop μ-loop
 same-length-2 c = (c .before .before) .loop .inv .2 .length
 
 returns-3 : tie.Need-returns-3 Inv-loop μ-loop
-returns-3 c = let i = (c .before .before) .loop .inv in (λ n. (i .0, i .1, listing-done (i .3) (c .if2 .left)), i .2)
+returns-3 c = let i = (c .before .before) .loop .inv in (λ n. (i .0, i .1, listing-done (i .3) (c .if2 .left)), (i .2, λ d l e. d (closed-at ((c .before .before .before .before .before .before) .args .b .now) (i .5 (omega (arith, e, i .0))) (c .if2 .left))))
 
 pub list-terms-spec : {M : Type 1} → statement M
 list-terms-spec =

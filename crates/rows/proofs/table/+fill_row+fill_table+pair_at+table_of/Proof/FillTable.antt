@@ -3,12 +3,13 @@ use Prim.Native.Nat.{ℕ, _+_, _-_, _*_, _≤_}
 use native.Mathlib.Omega.{arith}
 use mathlib.Core.Path.{refl, ap, _∙_}
 use lib.ListN.{length}
-use borrow.Author.Tests.{not-false}
+use borrow.Author.Tests.{not-true, not-false}
 use Rattle.patterns.specs.Search.{size}
 use Rattle.rows.specs.Rows.{listedAt, Lists}
 use Rattle.rows.proofs.Places.{kept-same, kept-then}
 use Rattle.rows.proofs.Lists.{place-in}
-use Rattle.rows.proofs.Filling.{Tabling, lists-lie, listed-first, listed-now, lists-kept, told-before, tabling-first, tabling-stands, tabling-size, tabling-above, tabling-turn, tabling-done}
+use Rattle.rows.proofs.Words.{told-some}
+use Rattle.rows.proofs.Filling.{Tabling, lists-lie, listed-first, listed-now, lists-kept, told-before, room-kept, tabling-first, tabling-stands, tabling-size, tabling-above, tabling-turn, tabling-done}
 use Rattle.rows.proofs.table.fill_table.Reads as fill-table
 use Rattle.rows.proofs.table.+fill_row+fill_table+pair_at+table_of.Lts-fill_table as lts
 use Rattle.rows.proofs.table.+fill_row+fill_table+pair_at+table_of.Proof.Common.{fill-table-at as at, fill-table-claims as claims}
@@ -27,7 +28,7 @@ module _ (t : ℕ) where
   add-if1 c = omega (arith, (c .before .before) .pre .1 .within, (c .before .before) .pre .1 .before, (c .before .before) .good)
 
   pub returns : lts.Need-returns (claims t) (at t) fill-table.Post Inv-loop μ-loop
-  returns c = (λ e. absurd (e refl), kept-same ((c .before .before .before) .args .row) ((c .before .before .before) .args .room .now))
+  returns c = (λ e. absurd (e refl), (kept-same ((c .before .before .before) .args .row) ((c .before .before .before) .args .room .now), λ k e. omega (arith, k .0, c .if1 .taken)))
 
   pub close-row-requires : lts.Need-close-row-requires (claims t) (at t) fill-table.Post Inv-loop μ-loop
   close-row-requires c κs = lists-lie ((c .before .before .before .before) .pre .1) ((c .before) .if1 .left)
@@ -72,10 +73,21 @@ module _ (t : ℕ) where
       )
 
   pub same-length : lts.Need-same-length (claims t) (at t) fill-table.Post Inv-loop μ-loop
-  same-length c = (c .before .before .before) .fill-row .ensures .1 .length ∙ (c .before .before .before .before .before .before .before .before .before .before .before) .loop .inv .2 .kept .length ∙ (c .before .before .before .before .before .before .before .before .before .before .before .before .before .before) .close-row .ensures .1 .length
+  same-length c = (c .before .before .before) .fill-row .ensures .1 .0 .length ∙ (c .before .before .before .before .before .before .before .before .before .before .before) .loop .inv .2 .kept .length ∙ (c .before .before .before .before .before .before .before .before .before .before .before .before .before .before) .close-row .ensures .1 .length
 
   pub returns-2 : lts.Need-returns-2 (claims t) (at t) fill-table.Post Inv-loop μ-loop
-  returns-2 c = (λ e. absurd (e refl), kept-then ((c .before .before .before .before .before .before .before .before .before .before .before .before .before .before) .close-row .ensures .1) (kept-then ((c .before .before .before .before .before .before .before .before .before .before .before) .loop .inv .2 .kept) ((c .before .before .before) .fill-row .ensures .1)))
+  returns-2 c =
+      let o = (c .before .before .before) .fill-row in
+      let d = (c .before .before .before .before .before .before .before .before .before .before .before .before .before .before) .close-row .ensures .1 in
+      let i = (c .before .before .before .before .before .before .before .before .before .before .before) .loop .inv in (
+        λ e. absurd (e refl),
+        (
+          kept-then d (kept-then (i .2 .kept) (o .ensures .1 .0)),
+          λ k e. o .ensures .1 .1
+              (rw ((c .before .before .before .before .before .before .before .before) .entry-at .ensures) (room-kept (i .0) (i .2 .kept) (room-kept ((c .before .before .before .before .before .before .before .before .before .before .before .before .before .before .before .before .before .before .before) .pre .1) d k) .1 ((c .before .before .before .before .before .before .before .before .before .before .before) .loop .i - 1) (omega (arith, i .2 .within, (c .before .before .before .before .before .before .before .before .before .before) .loop-test .taken))))
+              (not-true (o .result) (c .if2 .taken)),
+        ),
+      )
 
   pub loop-less : lts.Need-loop-less (claims t) (at t) fill-table.Post Inv-loop μ-loop
   loop-less c = omega (arith, (c .before .before .before .before .before .before .before .before .before .before) .loop-test .taken)
@@ -87,7 +99,7 @@ module _ (t : ℕ) where
         i .1,
         tabling-turn (i .0) (i .2) ((c .before .before .before .before .before .before .before .before .before .before) .loop-test .taken) (i .1) ((c .before .before .before .before .before .before .before .before) .entry-at .result) ((c .before .before .before .before .before .before .before .before) .entry-at .ensures)
             ((c .before .before .before .before .before .before) .close-behind .result) ((c .before .before .before .before .before) .ends-column .result) ((c .before .before .before .before .before .before) .close-behind .ensures) ((c .before .before .before .before .before) .ends-column .ensures)
-            _ ((c .before .before .before) .fill-row .ensures .1) ((c .before .before .before) .fill-row .ensures .0 (not-false ((c .before .before .before) .fill-row .result) (c .if2 .left))),
+            _ ((c .before .before .before) .fill-row .ensures .1 .0) ((c .before .before .before) .fill-row .ensures .0 (not-false ((c .before .before .before) .fill-row .result) (c .if2 .left))),
       )
 
   pub entry-at-requires-2 : lts.Need-entry-at-requires-2 (claims t) (at t) fill-table.Post Inv-loop μ-loop
@@ -101,4 +113,5 @@ module _ (t : ℕ) where
       let h = (c .before .before .before .before .before .before .before .before .before .before .before) .pre .1 in
       let k = (c .before .before .before .before .before .before) .close-row .ensures .1 in
       let i = (c .before .before .before) .loop .inv in
-      (λ e. told-before h k (c .entry-at2 .result) (tabling-done (i .0) (i .2) ((c .before .before) .loop-test .left) (c .entry-at2 .result) (c .entry-at2 .ensures)), kept-then k (i .2 .kept))
+      let w = told-before h k (c .entry-at2 .result) (tabling-done (i .0) (i .2) ((c .before .before) .loop-test .left) (c .entry-at2 .result) (c .entry-at2 .ensures)) in
+      (λ e. w, (kept-then k (i .2 .kept), λ _ e. told-some w e))

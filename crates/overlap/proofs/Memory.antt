@@ -5,10 +5,10 @@ use mathlib.Core.Path.{_≡_, refl, sym, ap, subst, _∙_}
 use mathlib.Core.Bool.{Bool, true, false}
 use mathlib.Core.List.{List}
 use mathlib.Core.Logic.{_⊎_, inl, inr, ⊎-elim}
-use lib.Dec.{eqb}
-use lib.ListN.{length, getD, drop, set, length-set}
+use lib.Dec.{eqb, ltb}
+use lib.ListN.{length, getD, drop, set, length-set, List·getD-eq-default}
 use lib.Seq.{getD-set-same, getD-set-other}
-use borrow.Author.Tests.{eqb-true, eqb-false}
+use borrow.Author.Tests.{eqb-true, eqb-false, ltb-true, ltb-false}
 use Rattle.program.specs.Encode.{putTerms}
 use Rattle.program.specs.Limits.{Mode}
 use Rattle.image.specs.Parts.{Passes, TermsAt, tail}
@@ -215,3 +215,30 @@ module _ {b s : List ℕ} (t : TailOf b s) (n : ℕ) where
 
   pub end-on : EndIs b n (placeOf b s) → (x : TermsAt Mode.pattern s) → Passes s n (putTerms (tail (x .terms)) (x .rest))
   end-on h x = subst (λ (l : List ℕ). Passes l n (putTerms (tail (x .terms)) (x .rest))) (sym (t .is)) (h (in-body t x))
+
+-- ---- entries that are emptied
+
+-- One more entry is empty.
+pub emptied-next : (m : List ℕ) (from k : ℕ) → k < length m → ((j : ℕ) → from ≤ j → j < k → getD m j 0 ≡ 0) → (j : ℕ) → from ≤ j → j < k + 1 → getD (set m k 0) j 0 ≡ 0
+emptied-next m from k l h j u w = by (eqb j k) refl
+  where
+    by : (t : Bool) → eqb j k ≡ t → getD (set m k 0) j 0 ≡ 0
+    by true e = ap (λ (i : ℕ). getD (set m k 0) i 0) (eqb-true j k e) ∙ getD-set-same m k 0 0 l
+    by false e = let n : j ≡ k → ⊥ = eqb-false j k e in getD-set-other m k j 0 0 n ∙ h j u (omega (arith, n, w))
+
+-- There is nothing past the end.
+pub emptied-all : (m : List ℕ) (from k : ℕ) → length m ≤ k → ((j : ℕ) → from ≤ j → j < k → getD m j 0 ≡ 0) → (j : ℕ) → from ≤ j → getD m j 0 ≡ 0
+emptied-all m from k l h j u = by (ltb j k) refl
+  where
+    by : (t : Bool) → ltb j k ≡ t → getD m j 0 ≡ 0
+    by true e = h j u (ltb-true j k e)
+    by false e = List·getD-eq-default m 0 (omega (arith, l, ltb-false j k e))
+
+-- Where every slot is empty, all that they tell is true.
+pub empty-remembers : (b m : List ℕ) (r : Room) → tables r + 6 * r .slots ≤ length m → ((k : ℕ) → tables r ≤ k → getD m k 0 ≡ 0) → Remembers b m r
+empty-remembers b m r h z = record {
+  fits = h;
+  pairs = λ i l d. absurd (d (z (tables r + 2 * i) (omega arith)));
+  ends = λ i l d. absurd (d (z (tables r + 2 * r .slots + 2 * i) (omega arith)));
+  splits = λ i l d. absurd (d (z (tables r + 4 * r .slots + 2 * i) (omega arith)));
+}

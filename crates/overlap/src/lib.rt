@@ -7,8 +7,8 @@ mod terms;
 use patterns::Found;
 use patterns::Verdict;
 ghost use mathlib.Core.Path.{_≡_};
-ghost use Prim.Native.Nat.{_≤_};
-ghost use lib.ListN.{length, drop};
+ghost use Prim.Native.Nat.{ℕ, _≤_};
+ghost use lib.ListN.{length, getD, drop};
 ghost use Rattle.program.specs.Limits.{Mode};
 ghost use Rattle.image.specs.Parts.{TermsAt};
 ghost use Rattle.patterns.specs.Search.{found, literalOverlap, start, sequence, patternsOverlap};
@@ -114,6 +114,31 @@ fn ended_by(earlier: Verdict, v: Verdict) -> Verdict
         Verdict::Overlap => Verdict::Overlap,
         Verdict::Unknown => Verdict::Unknown,
     }
+}
+
+// Empties the entries from a place on.
+fn forget(room: &mut [u32], from: usize)
+    ensures { λ _. ⌜ ((k : ℕ) → from ≤ k → getD (now (room .exit)) k 0 ≡ 0) ⌝ }
+{
+    let mut k = from;
+    while k < room.len() {
+        room[k] = 0;
+        k += 1;
+    }
+}
+
+// The search on the patterns that stand at p and q of a body, from any fuel. What is in the room does not matter.
+pub fn sequence_overlap(b: &[u8], p: usize, q: usize, fuel: u32, room: &mut [u32]) -> Found
+    requires { ⌜ TermsAt Mode.pattern (drop p (now b)) × TermsAt Mode.pattern (drop q (now b)) × (length (now b) ≤ 32768) × (fuel ≤ 4096) × (7878 ≤ length (now room)) ⌝ }
+    ensures { λ r. ⌜ ((x : TermsAt Mode.pattern (drop p (now (b .entry)))) (y : TermsAt Mode.pattern (drop q (now (b .entry)))) → r ≡ sequence fuel (x .terms) (y .terms)) ⌝ }
+{
+    let lent = Room {
+        frames: 5958,
+        begun: 768,
+        slots: 192,
+    };
+    forget(room, 6726);
+    search::sequence(b, &b[p..], &b[q..], fuel, NATIVE_DEPTH, 0, room, lent)
 }
 
 // The search on the patterns that stand at p and q of a body, with entries in which it may remember.

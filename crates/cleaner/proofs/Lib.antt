@@ -6,3 +6,4 @@ pub mod AfterRounds
 pub mod Searching
 pub mod Start
 pub mod Packing
+pub mod Meetings

@@ -1,6 +1,6 @@
 -- What the entry points promise, one page: each promise is a theorem, proved by citing.
--- The code meets these definitions, with no `requires`: `cleaner::overlap` ensures `r ≡ overlapAnswer image first second` for every image and numbers, and `cleaner::clean` ensures that its answer and the three lent slices at exit are those of `cleanAnswer image lent`, for every image and every lent length. Under the C names `showclean_clean` and `showclean_overlap` ensure that the number returned is `packClean` and `packOverlap` of the same answers.
-use Prim.Native.Nat.{ℕ, _+_, _-_, _<_, _≤_}
+-- The code meets these definitions, with no `requires`: `cleaner::overlap` ensures `r ≡ overlapAnswer image first second` for every image and numbers, and `cleaner::clean` ensures that its answer and the three lent slices at exit are those of `cleanAnswer image lent`, for every image and every lent length. `cleaner::overlap_expression` ensures that its answer and the lent slice at exit are those of `expressionAnswer image first second lent`. Under the C names `showclean_clean`, `showclean_overlap` and `showclean_overlap_expression` ensure that the number returned is `packClean`, `packOverlap` and `packExpression` of the same answers.
+use Prim.Native.Nat.{ℕ, _+_, _-_, _*_, _/_, _%_, _<_, _≤_}
 use native.Mathlib.Omega.{arith}
 use mathlib.Core.Path.{_≡_, refl, sym, ap, subst, _∙_}
 use mathlib.Core.Logic.{_↔_, _⊎_, inl, inr}
@@ -18,10 +18,12 @@ use Rattle.program.proofs.RoundTrip.{decodes, decode-encode, encode-decode}
 use Rattle.program.proofs.Own.{numbered-valid}
 use Rattle.patterns.specs.declared.Verdict.the-variants.{Disjoint, Overlap, Unknown}
 use Rattle.patterns.specs.Expression.{Expression}
+use Rattle.patterns.specs.Marks.{putExpression}
 use Rattle.patterns.specs.Fresh.{Fresh}
 use Rattle.patterns.specs.Search.{patternsOverlap, start, spent}
 use Rattle.patterns.specs.Dry.{Dry}
 use Rattle.patterns.proofs.Plain.{Plain, valid-plain}
+use Rattle.patterns.proofs.Marks.{Coded, one-expression}
 use Rattle.patterns.specs.Meet.{meet}
 use Rattle.patterns.proofs.Disjoint.{disjoint-sound}
 use Rattle.patterns.proofs.Overlap.{overlap-sound}
@@ -43,8 +45,10 @@ use Rattle.answers.specs.declared.OverlapAnswer.{OverlapAnswer}
 use Rattle.answers.specs.Answers.{comparePatterns, overlapAnswer, OverlapValues, refusalValues, comparisonValues, verdictNumber, overlapValues}
 use Rattle.answers.specs.CleanAnswers.{Lent, Left, cleanedTo, zeroed, written, cleanAnswer, CleanValues, cleanValues}
 use Rattle.answers.specs.Packed.{cleanFields, overlapFields, packClean, packOverlap, CleanFits}
+use Rattle.answers.specs.ExpressionAnswers.{ExpressionLeft, sharedExpression, ofVerdict, expressionAnswer, ExpressionValues, expressionValues, expressionFields, packExpression}
 use Rattle.answers.proofs.Fitting.{Unpacks, unpacks, overlap-fits}
 use Rattle.answers.proofs.Exactly.{CleanRefuses, CleanAccepts, untouched, clean-refuses, clean-accepts, clean-case, clean-number, OverlapRefuses, OverlapAccepts, overlap-refuses, overlap-accepts, overlap-case, overlap-number}
+use Rattle.answers.proofs.SharedExpression.{ExpressionRefuses, ExpressionAccepts, expression-refuses, expression-accepts, expression-number, expression-told, expression-zero, expression-fits, meeting-coded, overlap-shared}
 use Rattle.answers.proofs.Numbers.{clean-told, clean-refused-told, overlap-told, overlap-refused-told, written-back, written-past, written-length}
 
 -- ---- Demand 1: "an accepted answer or one of refusals 1 to 13, each on its listed condition and on no other. A refusal writes nothing into the output or the report."
@@ -202,3 +206,70 @@ rounds-bounded w = let h = all-rounds-few w in omega (arith, h)
 pub sentences-add-up : (w : Program) → cleanReport w .sentencesBefore ≡ cleanReport w .sentencesAfter + droppedInAll (rounds w)
 unfolding cleanReport
 sentences-add-up w = all-dropped-add-up w
+
+-- ---- Document 02: "A new entry point takes what Overlap takes, returns its answer and the length written, and writes, for an Overlap verdict, one expression that matches both patterns with every variable occurrence read as fresh."
+
+module _ (image : List ℕ) (first second : ℕ) (lent : List ℕ) where
+  abbrev pub expressionNumbers : ExpressionValues
+  expressionNumbers = expressionValues (expressionAnswer image first second lent .answer)
+
+  -- Number n with place p comes exactly if n's condition holds and no earlier one does: Overlap's, and then "Refusal 17, after 13, is a lent slice shorter than the expression."
+  pub expression-refused : (n p : ℕ) → 1 ≤ n → ((expressionNumbers .number ≡ n) × (expressionNumbers .place ≡ p)) ↔ ExpressionRefuses image first second lent n p
+  expression-refused n p h = let k = expression-told image first second lent n p h in (k .0, k .1)
+
+  pub expression-accepted : (expressionNumbers .number ≡ 0) ↔ ((x : Sentence) × (y : Sentence) × ExpressionAccepts image first second lent x y)
+  expression-accepted = let k = expression-zero image first second lent in (k .0, k .1)
+
+  pub expression-numbers : (n p : ℕ) → ExpressionRefuses image first second lent n p → (n ≡ 1) ⊎ ((4 ≤ n) × (n ≤ 11)) ⊎ ((n ≡ 13) ⊎ (n ≡ 17))
+  expression-numbers = expression-number image first second lent
+
+  -- A refusal writes nothing.
+  pub expression-refusal-writes-nothing : (n p : ℕ) → ExpressionRefuses image first second lent n p → expressionAnswer image first second lent .lent ≡ lent
+  expression-refusal-writes-nothing n p h = ap (λ (x : ExpressionLeft). x .lent) (expression-refuses image first second lent n p h)
+
+  module _ (x y : Sentence) (accepts : ExpressionAccepts image first second lent x y) where
+    -- "returns its answer and the length written"
+    pub expression-answered : expressionNumbers ≡ record { number = 0; place = 0; verdict = verdictNumber (patternsOverlap (x .pattern) (y .pattern)); spent = spent (x .pattern) (y .pattern); length = length (sharedExpression (x .pattern) (y .pattern)) }
+    unfolding expressionValues
+    expression-answered = ap (λ (z : ExpressionLeft). expressionValues (z .answer)) (expression-accepts image first second lent x y accepts)
+
+    -- The bytes up to that length, and those past it, which are unchanged.
+    abbrev pub wroteExpression : List ℕ
+    wroteExpression = take (expressionNumbers .length) (expressionAnswer image first second lent .lent)
+
+    wrote-shared : wroteExpression ≡ sharedExpression (x .pattern) (y .pattern)
+    unfolding expressionValues written
+    wrote-shared = ap (λ (z : ExpressionLeft). take (expressionValues (z .answer) .length) (z .lent)) (expression-accepts image first second lent x y accepts) ∙ written-back (sharedExpression (x .pattern) (y .pattern)) lent
+
+    pub expression-past : drop (expressionNumbers .length) (expressionAnswer image first second lent .lent) ≡ drop (expressionNumbers .length) lent
+    unfolding expressionValues
+    expression-past =
+        let e = expression-accepts image first second lent x y accepts in
+        ap (λ (z : ExpressionLeft). drop (expressionValues (z .answer) .length) (z .lent)) e ∙ (written-past (sharedExpression (x .pattern) (y .pattern)) lent ∙ sym (ap (λ (z : ExpressionLeft). drop (expressionValues (z .answer) .length) lent) e))
+
+    -- "Disjoint and Unknown write nothing."
+    pub nothing-written : (patternsOverlap (x .pattern) (y .pattern) ≡ Disjoint) ⊎ (patternsOverlap (x .pattern) (y .pattern) ≡ Unknown) → wroteExpression ≡ []
+    unfolding sharedExpression ofVerdict
+    nothing-written (inl e) = wrote-shared ∙ rw e
+    nothing-written (inr e) = wrote-shared ∙ rw e
+
+    -- For Overlap the bytes are those of the meeting; read back as any expression, that is the meeting, and both patterns match it.
+    module _ (bytes : Bytes image) (overlaps : patternsOverlap (x .pattern) (y .pattern) ≡ Overlap) where
+      pub expression-wrote : (wroteExpression ≡ putExpression (meet (x .pattern) (y .pattern)) []) × Coded (meet (x .pattern) (y .pattern))
+      expression-wrote = (wrote-shared ∙ overlap-shared (x .pattern) (y .pattern) overlaps, meeting-coded image bytes first second x y (accepts .compares))
+
+      pub expression-means : (v : Expression) → Coded v → wroteExpression ≡ putExpression v [] → (v ≡ meet (x .pattern) (y .pattern)) × Fresh (x .pattern) v × Fresh (y .pattern) v
+      expression-means v h e =
+          let w = accepts .compares .program in
+          let valid = encode-decode image w bytes (accepts .compares .accepted) .1 .0 .1 in
+          let m = overlap-sound (x .pattern) (y .pattern) (valid-plain (x .pattern) 0 (numbered-valid (w .functions) valid first x (accepts .compares .first-is))) (valid-plain (y .pattern) 0 (numbered-valid (w .functions) valid second y (accepts .compares .second-is))) overlaps in
+          let same : v ≡ meet (x .pattern) (y .pattern) = one-expression v (meet (x .pattern) (y .pattern)) h (expression-wrote .1) (sym e ∙ expression-wrote .0) in
+          (same, subst (λ (z : Expression). Fresh (x .pattern) z) (sym same) (m .0), subst (λ (z : Expression). Fresh (y .pattern) z) (sym same) (m .1))
+
+-- In one number: "bits 8 and 9 the verdict, 10 to 23 the entries spent", the rest as of the others.
+pub expression-unpacks : (image : List ℕ) → Bytes image → (first second : ℕ) (lent : List ℕ) → Unpacks (packExpression (expressionAnswer image first second lent .answer)) (expressionFields (expressionAnswer image first second lent .answer))
+expression-unpacks image bytes first second lent = unpacks (expressionFields (expressionAnswer image first second lent .answer)) (expression-fits image bytes first second lent)
+
+-- Where the middle holds the verdict v and the entries spent s, they are found again in it.
+pub expression-middle : (v s : ℕ) → v < 4 → ((v + 4 * s) % 4 ≡ v) × ((v + 4 * s) / 4 ≡ s)
+expression-middle v s h = (omega (arith, h), omega (arith, h))

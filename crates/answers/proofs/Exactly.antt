@@ -245,7 +245,7 @@ sentence-at (x ∷ l) ℕ.zero h = (x, refl)
 sentence-at (x ∷ l) (ℕ.suc n) h = sentence-at l n (omega (arith, h))
 
 module _ (image : List ℕ) (first second : ℕ) where
-  own-beyond : (w : Program) → decode image ≡ Answer.accepted w → (n : ℕ) → sentenceField image ≤ n → getElem? (ownSentences (w .functions)) n ≡ none
+  pub own-beyond : (w : Program) → decode image ≡ Answer.accepted w → (n : ℕ) → sentenceField image ≤ n → getElem? (ownSentences (w .functions)) n ≡ none
   own-beyond w e n h = beyond (ownSentences (w .functions)) n (let k = own-counted (w .functions) in let u = decoded-count image w e in omega (arith, h, k, u))
 
   second-beyond : (x y : Option Sentence) → y ≡ none → compareFound x y ≡ overlapRefused 13 0

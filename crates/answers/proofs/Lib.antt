@@ -1,4 +1,5 @@
 pub mod Fitting
 pub mod Exactly
 pub mod Numbers
+pub mod SharedExpression
 pub mod Demands

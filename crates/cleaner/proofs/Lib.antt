@@ -5,3 +5,4 @@ pub mod Ends
 pub mod AfterRounds
 pub mod Start
 pub mod Packing
+pub mod Meetings

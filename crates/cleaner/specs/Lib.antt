@@ -3,3 +3,4 @@ pub mod Alone
 pub mod Delivery
 pub mod Done
 pub mod Parts
+pub mod Shared

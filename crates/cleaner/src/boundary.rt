@@ -1,12 +1,15 @@
 // The entry points under C names, each with its answer packed into one number.
 use crate::clean;
 use crate::overlap;
+use crate::overlap_expression;
 use answers::CleanAnswer;
+use answers::ExpressionAnswer;
 use answers::OverlapAnswer;
 use patterns::Verdict;
 ghost use mathlib.Core.Path.{_≡_};
 ghost use Rattle.answers.specs.Answers.{overlapAnswer, verdictNumber};
 ghost use Rattle.answers.specs.CleanAnswers.{cleanAnswer, lending};
+ghost use Rattle.answers.specs.ExpressionAnswers.{expressionAnswer, packExpression};
 ghost use Rattle.answers.specs.Packed.{packed, FieldsFit, packClean, packOverlap, CleanFits};
 
 // Bits 0 to 7 the refusal's number or 0, 8 to 23 the middle, 24 to 63 the rest.
@@ -61,5 +64,28 @@ pub extern "C" fn showclean_overlap(img: &[u8], first: usize, second: usize) -> 
             pack(0, verdict_number(verdict), c.spent as u64)
         }
         OverlapAnswer::Refused(f) => pack(f.number as u64, 0, f.place as u64),
+    }
+}
+
+// Overlap with an expression: the middle is the verdict and four times the entries spent, the rest the length; or number and
+// place.
+#[no_mangle]
+pub extern "C" fn showclean_overlap_expression(
+    img: &[u8],
+    first: usize,
+    second: usize,
+    expression: &mut [u8],
+) -> u64
+    ensures answered { λ r. ⌜ r ≡ packExpression (expressionAnswer (now (img .entry)) first second (now (expression .entry)) .answer) ⌝ }
+    ensures writes { λ r. ⌜ now (expression .exit) ≡ expressionAnswer (now (img .entry)) first second (now (expression .entry)) .lent ⌝ }
+{
+    let answer = overlap_expression(img, first, second, expression);
+    match answer {
+        ExpressionAnswer::Compared(c) => {
+            let verdict = c.verdict;
+            let middle = verdict_number(verdict) + 4 * c.spent as u64;
+            pack(0, middle, c.length as u64)
+        }
+        ExpressionAnswer::Refused(f) => pack(f.number as u64, 0, f.place as u64),
     }
 }

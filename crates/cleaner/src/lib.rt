@@ -2,11 +2,13 @@
 mod boundary;
 mod delivery;
 mod rounds;
+mod shared;
 mod steps;
 mod unchanged;
 
 use answers::CleanAnswer;
 use answers::Comparison;
+use answers::ExpressionAnswer;
 use answers::OverlapAnswer;
 use image::part::Found as Place;
 use program::Refusal;
@@ -17,6 +19,7 @@ ghost use lib.ListN.{length};
 ghost use Rattle.image.specs.Parts.{Accepted};
 ghost use Rattle.answers.specs.Answers.{overlapAnswer, compareSentences, comparePatterns};
 ghost use Rattle.answers.specs.CleanAnswers.{cleanRefused, cleanAnswer, lending};
+ghost use Rattle.answers.specs.ExpressionAnswers.{expressionAnswer};
 ghost use Rattle.answers.specs.Packed.{CleanFits};
 ghost use Rattle.cleaner.specs.Parts.{PatternFrom};
 
@@ -105,5 +108,22 @@ pub fn overlap(img: &[u8], first: usize, second: usize) -> OverlapAnswer
     match v {
         Checked::Refused(f) => OverlapAnswer::Refused(f),
         Checked::Accepted => overlap_accepted(img, first, second),
+    }
+}
+
+// Overlap, and for its verdict Overlap one expression that matches both patterns, every variable occurrence read as fresh.
+pub fn overlap_expression(
+    img: &[u8],
+    first: usize,
+    second: usize,
+    expression: &mut [u8],
+) -> ExpressionAnswer
+    ensures answered { λ r. ⌜ r ≡ expressionAnswer (now (img .entry)) first second (now (expression .entry)) .answer ⌝ }
+    ensures writes { λ r. ⌜ now (expression .exit) ≡ expressionAnswer (now (img .entry)) first second (now (expression .entry)) .lent ⌝ }
+{
+    let v = reader::check::check(img);
+    match v {
+        Checked::Refused(f) => ExpressionAnswer::Refused(f),
+        Checked::Accepted => shared::share_accepted(img, first, second, expression),
     }
 }

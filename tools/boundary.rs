@@ -17,4 +17,12 @@ unsafe extern "C" {
         first: usize,
         second: usize,
     ) -> u64;
+    pub fn showclean_overlap_expression(
+        image: *const u8,
+        image_length: usize,
+        first: usize,
+        second: usize,
+        expression: *mut u8,
+        expression_length: usize,
+    ) -> u64;
 }

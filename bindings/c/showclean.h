@@ -3,12 +3,12 @@
 
    What the caller owes, since no proof reaches into C:
    - Each pointer is valid for its length. It may be NULL if its length is 0.
-   - Lent slices share no memory: image, output, work and report lie apart. That they do is not tested, and nothing
+   - Lent slices share no memory: image, output, work, report and expression lie apart. That they do is not tested, and nothing
      is promised if they do not: an answer 0 with wrong bytes was seen.
    - work is aligned for uint32_t.
 
    Threads: nothing is kept between calls, so that any number of threads may call at once, each with its own output,
-   work and report; an image is only read and may be shared.
+   work, report and expression; an image is only read and may be shared.
 
    Memory and code: docs/BINDINGS.md. The archive needs one symbol from outside, memset, and holds x86-64 code.
 
@@ -26,6 +26,7 @@
 #define SHOWCLEAN_VERSION "0.1.0"
 
 #define SHOWCLEAN_LARGEST_IMAGE 32768
+#define SHOWCLEAN_EXPRESSION_ROOM 131072
 #define SHOWCLEAN_WORK(image_length) (((image_length) + 3) / 4)
 
 /* C90 has no `inline`. */
@@ -53,6 +54,11 @@ uint64_t showclean_clean(const uint8_t *image, size_t image_length,
 /* Compares the patterns of two sentences, numbered in file order from 0. */
 uint64_t showclean_overlap(const uint8_t *image, size_t image_length, size_t first, size_t second);
 
+/* The same, and for the verdict Overlap one expression that matches both patterns, written as image records with zero
+   spans and no close at the end. Whatever the image, SHOWCLEAN_EXPRESSION_ROOM bytes are enough. */
+uint64_t showclean_overlap_expression(const uint8_t *image, size_t image_length, size_t first, size_t second,
+                                      uint8_t *expression, size_t expression_length);
+
 #ifdef __cplusplus
 }
 #endif
@@ -72,7 +78,8 @@ enum showclean_number {
     SHOWCLEAN_NESTED = 10,
     SHOWCLEAN_COUNTS = 11,
     SHOWCLEAN_REPORT_SHORT = 12, /* the place is the length needed */
-    SHOWCLEAN_NO_SENTENCE = 13
+    SHOWCLEAN_NO_SENTENCE = 13,
+    SHOWCLEAN_EXPRESSION_SHORT = 17
 };
 
 enum showclean_verdict {
@@ -93,6 +100,11 @@ SHOWCLEAN_INLINE size_t showclean_report_length(uint64_t answer) { return (size_
 /* Of a call of showclean_overlap that was not refused. */
 SHOWCLEAN_INLINE unsigned showclean_verdict(uint64_t answer) { return showclean_middle(answer); }
 SHOWCLEAN_INLINE unsigned showclean_spent(uint64_t answer) { return (unsigned)showclean_rest(answer); }
+
+/* Of a call of showclean_overlap_expression that was not refused: bits 8 and 9, 10 to 23, 24 to 63. */
+SHOWCLEAN_INLINE unsigned showclean_expression_verdict(uint64_t answer) { return showclean_middle(answer) & 3; }
+SHOWCLEAN_INLINE unsigned showclean_expression_spent(uint64_t answer) { return showclean_middle(answer) >> 2; }
+SHOWCLEAN_INLINE size_t showclean_expression_length(uint64_t answer) { return (size_t)showclean_rest(answer); }
 
 /* Of a refused call: the byte of the image that is at fault (5 to 10), the length needed (12), else 0. */
 SHOWCLEAN_INLINE size_t showclean_place(uint64_t answer) { return (size_t)showclean_rest(answer); }
@@ -118,6 +130,7 @@ SHOWCLEAN_INLINE const char *showclean_refusal_text(unsigned number)
     case SHOWCLEAN_COUNTS: return "the trailer's second field or counts do not agree with the body";
     case SHOWCLEAN_REPORT_SHORT: return "report text longer than the report";
     case SHOWCLEAN_NO_SENTENCE: return "a sentence number not below the sentence count";
+    case SHOWCLEAN_EXPRESSION_SHORT: return "a lent slice shorter than the expression";
     default: return "no refusal has this number";
     }
 }

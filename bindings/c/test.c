@@ -59,6 +59,19 @@ static void check_overlap(size_t length)
     check(showclean_number(answer) == SHOWCLEAN_NO_SENTENCE, "no sentence has the largest number");
 }
 
+/* Sentences 3 and 4 of examples/removed.image meet. */
+static void check_expression(size_t length)
+{
+    uint64_t answer = showclean_overlap_expression(image, length, 3, 4, again, sizeof again);
+    size_t written = showclean_expression_length(answer);
+    check(showclean_number(answer) == SHOWCLEAN_DONE && showclean_expression_verdict(answer) == SHOWCLEAN_OVERLAP, "two sentences share an expression");
+    check(showclean_expression_spent(answer) == showclean_spent(showclean_overlap(image, length, 3, 4)), "it spends what Overlap does");
+    check(written > 0 && written <= sizeof again, "the expression fits");
+    answer = showclean_overlap_expression(image, length, 3, 4, again, written - 1);
+    check(showclean_number(answer) == SHOWCLEAN_EXPRESSION_SHORT && showclean_place(answer) == 0, "a byte less is refused with 17");
+    check(showclean_number(showclean_overlap_expression(NULL, 0, 0, 0, NULL, 0)) == SHOWCLEAN_SIZE, "no image is refused");
+}
+
 int main(int count, char **words)
 {
     unsigned number;
@@ -73,8 +86,9 @@ int main(int count, char **words)
     check_null(length);
     check_clean(length);
     check_overlap(length);
+    check_expression(length);
     check(!strcmp(showclean_version(), SHOWCLEAN_VERSION), "the version is the header's");
-    for (number = 0; number <= SHOWCLEAN_NO_SENTENCE + 1; number++)
+    for (number = 0; number <= SHOWCLEAN_EXPRESSION_SHORT + 1; number++)
         printf("%u: %s\n", number, showclean_refusal_text(number));
     return failures > 0;
 }

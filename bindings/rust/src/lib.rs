@@ -8,6 +8,9 @@ pub use refusal::{words, Place, Refusal};
 /// The longest image that is not refused for its size.
 pub const LARGEST_IMAGE: usize = 32768;
 
+/// So many bytes are enough for every expression that `overlap_expression` writes.
+pub const EXPRESSION_ROOM: usize = 131_072;
+
 /// The entries of work that an image of so many bytes needs.
 pub const fn work_needed(image: usize) -> usize {
     image.div_ceil(4)
@@ -37,6 +40,14 @@ pub struct Compared {
     pub spent: u32,
 }
 
+/// The same, and how much of the lent expression was written: nothing unless the verdict is Overlap.
+#[derive(Clone, Copy, Debug, PartialEq, Eq)]
+pub struct Shared {
+    pub verdict: Verdict,
+    pub spent: u32,
+    pub length: usize,
+}
+
 // A slice goes as its pointer and its length.
 extern "C" {
     fn showclean_clean(
@@ -50,6 +61,14 @@ extern "C" {
         report_length: usize,
     ) -> u64;
     fn showclean_overlap(image: *const u8, image_length: usize, first: usize, second: usize) -> u64;
+    fn showclean_overlap_expression(
+        image: *const u8,
+        image_length: usize,
+        first: usize,
+        second: usize,
+        expression: *mut u8,
+        expression_length: usize,
+    ) -> u64;
 }
 
 /// The parts of an answer that was not refused: bits 8 to 23, and 24 to 63.
@@ -94,12 +113,33 @@ pub fn overlap(image: &[u8], first: usize, second: usize) -> Result<Compared, Re
     // SAFETY: the pointer and the length are those of one slice.
     let answer = unsafe { showclean_overlap(image.as_ptr(), image.len(), first, second) };
     let (verdict, spent) = parts(answer)?;
-    let verdict = match verdict {
+    Ok(Compared { verdict: verdict_of(verdict), spent: spent as u32 })
+}
+
+fn verdict_of(number: usize) -> Verdict {
+    match number {
         0 => Verdict::Disjoint,
         1 => Verdict::Overlap,
         _ => Verdict::Unknown,
+    }
+}
+
+/// The same, and writes one expression that matches both patterns if their verdict is Overlap: image records with zero
+/// spans, and no close at the end. Each occurrence of a variable is read by itself.
+pub fn overlap_expression(image: &[u8], first: usize, second: usize, expression: &mut [u8]) -> Result<Shared, Refusal> {
+    // SAFETY: each pointer and length are those of one slice, and the two slices share no memory.
+    let answer = unsafe {
+        showclean_overlap_expression(
+            image.as_ptr(),
+            image.len(),
+            first,
+            second,
+            expression.as_mut_ptr(),
+            expression.len(),
+        )
     };
-    Ok(Compared { verdict, spent: spent as u32 })
+    let (middle, length) = parts(answer)?;
+    Ok(Shared { verdict: verdict_of(middle & 3), spent: middle as u32 >> 2, length: length as usize })
 }
 
 /// Whether an image is accepted, with no memory lent.

@@ -16,6 +16,8 @@ impl Refusal {
     pub const REPORT_SHORT: u8 = 12;
     /// A sentence number not below the sentence count.
     pub const NO_SENTENCE: u8 = 13;
+    /// A lent slice shorter than the expression.
+    pub const EXPRESSION_SHORT: u8 = 17;
 
     /// The refusal in words, without its place.
     pub fn words(self) -> &'static str {
@@ -60,6 +62,7 @@ pub fn words(number: u8) -> &'static str {
         11 => "the trailer's second field or counts do not agree with the body",
         12 => "report text longer than the report",
         13 => "a sentence number not below the sentence count",
+        17 => "a lent slice shorter than the expression",
         _ => "no refusal has this number",
     }
 }

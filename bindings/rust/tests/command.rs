@@ -107,6 +107,13 @@ fn what_goes_is_shown_with_its_lines() {
 }
 
 #[test]
+fn an_expression_that_meets_both_is_printed() {
+    assert_eq!(text(&done(refal(&["witness", &example("worked", "image"), "2", "2"]))), "()\n");
+    assert!(text(&done(refal(&["witness", &example("worked", "image"), "1", "2"]))).starts_with("Disjoint"));
+    assert!(said(refal(&["witness", &example("worked", "image"), "1"]), 2).contains("usage: refal witness"));
+}
+
+#[test]
 fn sentences_are_listed_and_compared() {
     let listed = done(refal(&["overlap", &example("worked", "ref")]));
     assert!(text(&listed).contains("    2  F {(e.Z)}    line 2\n"), "{}", text(&listed));
@@ -128,7 +135,7 @@ fn a_refusal_is_explained_with_its_place() {
     fs::write(&damaged, &image).expect("a file");
     let explained = done(refal(&["explain", "6", "10", damaged.to_str().expect("a plain path")]));
     assert!(text(&explained).contains("what to do:") && text(&explained).contains("^^ byte 10, 0 in decimal"));
-    assert!(said(refal(&["explain", "99"]), 2).contains("no refusal has the number 99: they go from 1 to 13"));
+    assert!(said(refal(&["explain", "99"]), 2).contains("no refusal has the number 99: they go from 1 to 17"));
 }
 
 #[test]

@@ -3,7 +3,7 @@ use std::error::Error;
 use std::fs;
 use std::path::{Path, PathBuf};
 
-use showclean::{check, clean, overlap, words, work_needed, Place, Refusal, Verdict};
+use showclean::{check, clean, overlap, overlap_expression, words, work_needed, Place, Refusal, Verdict};
 
 fn examples() -> PathBuf {
     Path::new(env!("CARGO_MANIFEST_DIR")).join("../../examples")
@@ -67,6 +67,18 @@ fn sentences_are_compared() {
     assert_ne!(compared.verdict, Verdict::Disjoint);
     assert!(0 < compared.spent && compared.spent <= 4096);
     assert_eq!(overlap(&image, 0, 100_000), Err(refusal(13, 0)));
+}
+
+#[test]
+fn an_expression_that_both_patterns_match_is_written() {
+    let image = image_of("removed");
+    let mut room = vec![7; showclean::EXPRESSION_ROOM];
+    let shared = overlap_expression(&image, 3, 4, &mut room).expect("the sentences are there");
+    assert_eq!((shared.verdict, shared.spent), (Verdict::Overlap, overlap(&image, 3, 4).expect("compared").spent));
+    assert!(0 < shared.length && room[shared.length..].iter().all(|&byte| byte == 7));
+    let mut short = vec![7; shared.length - 1];
+    assert_eq!(overlap_expression(&image, 3, 4, &mut short), Err(refusal(17, 0)));
+    assert!(short.iter().all(|&byte| byte == 7));
 }
 
 #[test]

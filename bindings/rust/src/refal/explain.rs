@@ -31,6 +31,7 @@ fn causes(number: u8) -> Option<(&'static str, &'static str)> {
         10 => (author, "give what is nested so deep to a function of its own"),
         12 => (caller, "lend a report as long as the place says; `refal clean` does so by itself"),
         13 => (caller, "number the functions' own sentences in file order from 0; `refal overlap IN` lists them"),
+        17 => (caller, "lend 131,072 bytes, which are enough for every expression; `refal witness` does so by itself"),
         _ => return None,
     })
 }
@@ -85,7 +86,7 @@ mod tests {
 
     #[test]
     fn every_refusal_has_words() {
-        for refusal in 1..=13 {
+        for refusal in (1..=13).chain([17]) {
             let told = number(refusal).expect("a refusal");
             assert!(told.contains(words(refusal)) && told.contains("what to do: "), "{told}");
         }

@@ -34,6 +34,12 @@ pub fn decode(image: &[u8]) -> Program {
     program
 }
 
+/// The terms of an expression that the library has written; nothing closes it.
+pub fn expression(bytes: &[u8]) -> Vec<Term> {
+    let closed = [bytes, &[CLOSE]].concat();
+    Body { rest: &closed }.terms()
+}
+
 /// What is left to read; each method takes one part from its front.
 struct Body<'a> {
     rest: &'a [u8],

@@ -11,7 +11,7 @@ pub fn run(words: &Words) -> Result<Outcome, Failure> {
         return Err(Failure::Use("a refusal's number is missing".to_owned()));
     };
     let Some(mut text) = explain::number(number(word)?) else {
-        let last = (1..u8::MAX).take_while(|number| explain::number(*number).is_some()).count();
+        let last = (1..u8::MAX).filter(|number| explain::number(*number).is_some()).max().unwrap_or_default();
         return Err(Failure::Use(format!("no refusal has the number {word}: they go from 1 to {last}")));
     };
     match (words.place(1), words.place(2)) {

@@ -8,6 +8,7 @@ mod explain;
 mod graph;
 mod lint;
 mod overlap;
+mod witness;
 
 use crate::failure::Failure;
 use crate::words::{Takes, Words};
@@ -106,6 +107,13 @@ const COMMANDS: &[Command] = &[
         about: "list the sentences by number, or compare the patterns of two",
         takes: plain(3),
         run: overlap::run,
+    },
+    Command {
+        name: "witness",
+        words: "IN FIRST SECOND",
+        about: "print one expression that matches the patterns of two sentences",
+        takes: plain(3),
+        run: witness::run,
     },
     Command {
         name: "explain",

@@ -33,7 +33,7 @@ fn compare(input: &Input, lines: &[String], first: usize, second: usize) -> Resu
 }
 
 /// A line for each sentence, by its number.
-fn sentence_lines(input: &Input) -> Vec<String> {
+pub fn sentence_lines(input: &Input) -> Vec<String> {
     let mut lines = Vec::new();
     for (f, _, sentence) in input.program.own_sentences() {
         let (number, name) = (lines.len(), &input.program.functions[f].name);

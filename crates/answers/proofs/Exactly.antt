@@ -31,10 +31,6 @@ use Rattle.answers.specs.CleanAnswers.{Lent, Left, cleanRefused, cleaned
 abbrev pub bodyOf : List ℕ → List ℕ
 bodyOf image = take (bodyLength image) image
 
--- Neither 1 nor 4.
-abbrev pub Framed : List ℕ → Type 0
-Framed image = (sized image ≡ true) × (pointed image ≡ true)
-
 -- What the image alone is refused for, past 1: 4; "then 5 to 10 at the earliest place", where reading from the left stops, with `left` bytes from that place on; then 11.
 pub data ImageRefuses (image : List ℕ) : ℕ → ℕ → Type 0 where
   by-4 : pointed image ≡ false → ImageRefuses image 4 0

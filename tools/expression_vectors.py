@@ -1,6 +1,6 @@
 """Writes the corpus that the expression entry point is replayed on.
 
-    python3 tools/expression_vectors.py > crates/vectors/data/expression
+    python3 tools/expression_vectors.py > corpus      which tools/expressions.c replays
     python3 tools/expression_vectors.py check COUNT
 
 The stream is records of 16 bytes, little-endian: image length (u16), first and

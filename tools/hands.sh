@@ -95,6 +95,13 @@ step "the archive: one symbol from outside, no data, code as told" archive_as_to
 
 # ---------------------------------------------------------------------- Rust
 
+# The library's expressions, held to those that a mirror of document 02 makes.
+expressions() {
+    cc -std=c99 -Wall -Wextra -Werror -O2 -o "$here/expressions" tools/expressions.c "$archive" &&
+        python3 tools/expression_vectors.py > "$here/corpus" && "$here/expressions" < "$here/corpus"
+}
+step "expressions that both patterns match" expressions
+
 step "the wrapper and the command, tested" cargo test -q --manifest-path bindings/rust/Cargo.toml
 step "the command installed" cargo install -q --path bindings/rust
 if cargo clippy --version > "$here/said" 2>&1; then

@@ -29,14 +29,14 @@ slice-aggregate-sequence-overlap c = search needs
 sequence-overlap-requires : tie.Need-sequence-overlap-requires
 sequence-overlap-requires c κs =
     let s = c .before .before .before in
-    (pattern-part (now (s .args .b)) (s .args .i) (s .pre .0), pattern-part (now (s .args .b)) (s .args .j) (s .pre .1), s .pre .2, omega arith, omega arith)
+    (pattern-part (now (s .args .b)) (s .args .i) (s .pre .0), pattern-part (now (s .args .b)) (s .args .j) (s .pre .1), s .pre .2, omega arith)
 
 sub-spent : tie.Need-sub-spent
 sub-spent c =
     let s = c .before .before .before .before .before .before in
     let x = pattern-part (now (s .args .b)) (s .args .i) (s .pre .0) in
     let y = pattern-part (now (s .args .b)) (s .args .j) (s .pre .1) in
-    fuel-left (x .terms) (y .terms) (c .before .before .sequence-overlap .result) (c .before .before .sequence-overlap .ensures x y)
+    fuel-left (x .terms) (y .terms) (c .before .before .sequence-overlap .result) (c .before .before .sequence-overlap .ensures .0 x y)
 
 is-overlap-requires : tie.Need-is-overlap-requires
 is-overlap-requires c κs = search needs
@@ -47,7 +47,7 @@ returns c = λ x y.
     let q = c .before .before .before .before .sequence-overlap in
     let u = pattern-part (now (s .args .b)) (s .args .i) x in
     let v = pattern-part (now (s .args .b)) (s .args .j) y in
-    nothing-shared (u .terms) (v .terms) (q .result) (q .ensures u v) (now (s .args .out)) (not-taken (c .before .is-overlap .result) _ (c .if1 .taken) (c .before .is-overlap .ensures))
+    nothing-shared (u .terms) (v .terms) (q .result) (q .ensures .0 u v) (now (s .args .out)) (not-taken (c .before .is-overlap .result) _ (c .if1 .taken) (c .before .is-overlap .ensures))
 
 slice-relend-prefix-put-meeting : tie.Need-slice-relend-prefix-put-meeting
 slice-relend-prefix-put-meeting c = search needs
@@ -61,7 +61,7 @@ slice-aggregate-put-meeting-2 c = search needs
 put-meeting-requires : tie.Need-put-meeting-requires
 put-meeting-requires c κs =
     let s = c .before .before .before .before .before .before .before .before .before .before in
-    (pattern-part (now (s .args .b)) (s .args .i) (s .pre .0), pattern-part (now (s .args .b)) (s .args .j) (s .pre .1), s .pre .2, omega (arith, c .before .before .before .before .before .before .sequence-overlap .kept .1 .1 .1 .1 .0))
+    (pattern-part (now (s .args .b)) (s .args .i) (s .pre .0), pattern-part (now (s .args .b)) (s .args .j) (s .pre .1), s .pre .2)
 
 no-expression-requires : tie.Need-no-expression-requires
 no-expression-requires c κs = search needs
@@ -81,7 +81,7 @@ returns-2 c = λ x y.
     let same : m .last .1 .1 .1 .0 ++ lent ≡ lent = ap (λ (l : List ℕ). l ++ lent) (k .1) in
     ap (λ (l : List ℕ). leaving (c .no-expression .result) l) same
     ∙ ap (λ (r : ExpressionAnswer). leaving r lent) (c .no-expression .ensures)
-    ∙ too-short (u .terms) (v .terms) (q .result) (q .ensures u v) lent (not-left (c .before .before .before .before .before .before .before .before .before .is-overlap .result) _ (c .before .before .before .before .before .before .before .before .if1 .left) (c .before .before .before .before .before .before .before .before .before .is-overlap .ensures)) (m .result) (k .0) (omega (arith, c .before .if2 .taken, ap length same))
+    ∙ too-short (u .terms) (v .terms) (q .result) (q .ensures .0 u v) lent (not-left (c .before .before .before .before .before .before .before .before .before .is-overlap .result) _ (c .before .before .before .before .before .before .before .before .if1 .left) (c .before .before .before .before .before .before .before .before .before .is-overlap .ensures)) (m .result) (k .0) (omega (arith, c .before .if2 .taken, ap length same))
 
 slice-aggregate-put-meeting-3 : tie.Need-slice-aggregate-put-meeting-3
 slice-aggregate-put-meeting-3 c = search needs
@@ -89,7 +89,7 @@ slice-aggregate-put-meeting-3 c = search needs
 put-meeting-requires-2 : tie.Need-put-meeting-requires-2
 put-meeting-requires-2 c κs =
     let s = c .before .before .before .before .before .before .before .before .before .before .before .before .before .before .before .before .before in
-    (pattern-part (now (s .args .b)) (s .args .i) (s .pre .0), pattern-part (now (s .args .b)) (s .args .j) (s .pre .1), s .pre .2, omega (arith, c .before .before .before .before .before .before .before .before .before .before .before .before .before .sequence-overlap .kept .1 .1 .1 .1 .0, c .before .before .before .before .before .before .put-meeting .kept .1 .1 .1 .1 .0))
+    (pattern-part (now (s .args .b)) (s .args .i) (s .pre .0), pattern-part (now (s .args .b)) (s .args .j) (s .pre .1), s .pre .2)
 
 same-length-2 : tie.Need-same-length-2
 same-length-2 c = search needs
@@ -105,7 +105,7 @@ returns-3 c = λ x y.
     let k = counted (putExpression (meet (u .terms) (v .terms)) []) (m .result) (m .last .1 .1 .1 .0) (m .ensures u v) in
     let lent = now (s .args .out) in
     let same : m .last .1 .1 .1 .0 ++ lent ≡ lent = ap (λ (l : List ℕ). l ++ lent) (k .1) in
-    shared-written (u .terms) (v .terms) (q .result) (q .ensures u v) lent (not-left (c .before .before .before .before .before .before .before .before .before .before .before .before .before .before .is-overlap .result) _ (c .before .before .before .before .before .before .before .before .before .before .before .before .before .if1 .left) (c .before .before .before .before .before .before .before .before .before .before .before .before .before .before .is-overlap .ensures)) (m .result) (n .result) (n .last .1 .1 .1 .0) (k .0) (λ l. omega (arith, l, c .before .before .before .before .before .before .if2 .left, ap length same))
+    shared-written (u .terms) (v .terms) (q .result) (q .ensures .0 u v) lent (not-left (c .before .before .before .before .before .before .before .before .before .before .before .before .before .before .is-overlap .result) _ (c .before .before .before .before .before .before .before .before .before .before .before .before .before .if1 .left) (c .before .before .before .before .before .before .before .before .before .before .before .before .before .before .is-overlap .ensures)) (m .result) (n .result) (n .last .1 .1 .1 .0) (k .0) (λ l. omega (arith, l, c .before .before .before .before .before .before .if2 .left, ap length same))
     (subst (λ (l : List ℕ). Emitted l 0 (putExpression (meet (u .terms) (v .terms)) []) (n .result) (n .last .1 .1 .1 .0)) same (n .ensures u v))
 
 pub share-spec : {M : Type 1} → statement M

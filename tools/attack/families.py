@@ -164,7 +164,7 @@ FAMILIES = {
     "spans": Family(lambda: differing_spans(836, 980), "836 functions of one name, 980 sites that differ in a span"),
     "lines": Family(lambda: removed_lines(430, 880, 880), "430 removed lines, 880 live and 880 dead sites"),
     "texts": Family(lambda: one_text(1300, 700), "1,300 functions of one name, 700 arguments of one text"),
-    "rounds": Family(lambda: rounds(210, 770), "210 rounds, 770 functions, dead sites at the lists' heads"),
+    "rounds": Family(lambda: rounds(205, 760), "205 rounds, 760 functions, dead sites at the lists' heads"),
     "report": Family(lambda: long_report(560, 480), "560 removed lines, 480 restrictions"),
     "beginnings": Family(lambda: common_beginnings(285, 8), "285 removed texts with a common beginning"),
     "bucket": Family(lambda: bucket_names(480), "480 names of one bucket, if names are hashed by 31"),

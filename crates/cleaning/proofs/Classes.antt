@@ -1,5 +1,5 @@
--- Classes for the list of one function after another: functions of one name have one list, others share no site.
-use Prim.Native.Nat.{ℕ, suc, _+_, _<_}
+-- Classes for the list of one function after another: functions of one name have one list, which is classed once, others share no site.
+use Prim.Native.Nat.{ℕ, suc, _+_, _-_, _<_}
 use native.Mathlib.Omega.{arith}
 use mathlib.Core.Path.{_≡_, refl, sym, ap, subst, _∙_}
 use mathlib.Core.Bool.{Bool, true, false, _&&_, true≢false}
@@ -15,14 +15,18 @@ use Rattle.restrictions.specs.Entries.{Entry}
 use Rattle.index.specs.declared.Plan.{Plan}
 use Rattle.index.specs.First.{First}
 use Rattle.told.specs.Calls.{isCallOf, isListed}
-use Rattle.index.specs.Layout.{calls, links}
+use Rattle.index.specs.Layout.{calls, links, room}
+use Rattle.index.specs.Bucket.{bucketOf, inBucket, isNamed, Filed}
+use Rattle.index.specs.Tabled.{Tabled, SomeFiled}
 use Rattle.index.specs.Links.{listHead, entryClass, isRepeat, Classed}
 use Rattle.index.specs.Lists.{ListAt, OnlyClasses}
 use Rattle.index.proofs.Calls.{listed-call, same-lists}
 use Rattle.index.proofs.Entries.{below-or-here}
-use Rattle.index.proofs.First.{element-below, element-same}
+use Rattle.index.proofs.First.{element-at, element-below, element-same}
+use Rattle.index.proofs.Shared.{own-first}
 use Rattle.index.proofs.Firsts.{first-agree}
-use Rattle.cleaning.specs.Prepared.{Chains, ClassesWritten}
+use Rattle.index.proofs.Preserved.{tabled-same}
+use Rattle.cleaning.specs.Prepared.{Chains, ClassesWritten, Earlier}
 
 -- Two functions that both have the site y have one name.
 one-name : (f g : Name) (y : Held) → isListed true f y ≡ true → isListed true g y ≡ true → sameName f g ≡ true
@@ -47,6 +51,10 @@ classed-kept f g sites old new links a o k = record { class = λ i y e t. go i y
         true≢false (sym (w .listed) ∙ (ap (isListed true f) u ∙ h)))))
         (k .class i y e t)
 
+-- Functions of one name have one list, and so one set of classes.
+classed-same : (f g : Name) (sites : List Held) (m : List ℕ) (links : ℕ) → sameName f g ≡ true → Classed f sites m links → Classed g sites m links
+classed-same f g sites m links e a = record { class = λ i y q t. first-agree (isRepeat f y) (isRepeat g y) (repeats-same f g y e) (a .class i y q (same-lists f g true e y ∙ t)) }
+
 module _ {b old new : List ℕ} {p : Plan} {w : Program} (l : Chains b w old p) {f : ℕ} (k : ClassesWritten w old new p f) where
   -- The list of the f-th function, as work has it by now.
   pub chains-list : (x : Function) → getElem? (w .functions) f ≡ some x → (head : ℕ) → head ≡ listHead true (getD new (p .functions + f) 0) → f < p .functions → ListAt b new (calls p) (links p) (p .sites) head (x .name) (sitesOf w)
@@ -63,6 +71,7 @@ module _ {b old new : List ℕ} {p : Plan} {w : Program} (l : Chains b w old p) 
   classes-then x e next c o = record {
     length = o .length ∙ k .length;
     before = λ j h. o .others j (λ i y a q. absurd (omega arith)) ∙ k .before j h;
+    behind = λ j h. o .others j (λ i y a q. absurd (omega (arith, element-below (sitesOf w) i y (a .is), l .sites))) ∙ k .behind j h;
     nexts = λ i. o .nexts i ∙ k .nexts i;
     classed = λ g y h q.
         below-or-here (λ (n : ℕ). Classed (y .name) (sitesOf w) next (links p)) g f
@@ -71,9 +80,57 @@ module _ {b old new : List ℕ} {p : Plan} {w : Program} (l : Chains b w old p) 
         h;
   }
 
+  pub tabled-still : Tabled b new (p .functions) (w .functions)
+  tabled-still = tabled-same (l .function) (λ j h. k .before j (omega (arith, h))) (k .length)
+
+  pub filed-there : Filed (w .functions) new (room p) (room p + p .functions) (length new - room p - p .functions) 0
+  filed-there = subst
+      (λ (n : ℕ). Filed (w .functions) new (room p) (room p + p .functions) n 0)
+      (omega (arith, k .length))
+      (record {
+        bucket = λ j h. subst (First (inBucket (length old - room p - p .functions) j) 0 (w .functions)) (sym (k .behind (room p + p .functions + j) (omega arith))) (l .filed .bucket j h);
+        link = λ j x h q. subst (First (inBucket (length old - room p - p .functions) (bucketOf (length old - room p - p .functions) (x .name))) (suc j) (w .functions)) (sym (k .behind (room p + j) (omega arith))) (l .filed .link j x h q);
+      })
+
   pub classes-next : (x : Function) → getElem? (w .functions) f ≡ some x → (r : ℕ) → r ≡ links p → {next : List ℕ} → Classed (x .name) (sitesOf w) next r → OnlyClasses (x .name) (sitesOf w) new next r → ClassesWritten w old next p (f + 1)
   classes-next x e r h {next} c o =
       classes-then x e next (subst (Classed (x .name) (sitesOf w) next) h c) (subst (OnlyClasses (x .name) (sitesOf w) new next) h o)
 
+  -- A later function of a name has the classes of the first.
+  pub classes-later : (x : Function) → getElem? (w .functions) f ≡ some x → Earlier (w .functions) f x → ClassesWritten w old new p (f + 1)
+  classes-later x e g = record {
+    length = k .length;
+    before = k .before;
+    behind = k .behind;
+    nexts = k .nexts;
+    classed = λ h y u q.
+        below-or-here (λ (n : ℕ). Classed (y .name) (sitesOf w) new (links p)) h f
+        (λ v. k .classed h y v q)
+        (λ v. subst (λ (z : Function). Classed (z .name) (sitesOf w) new (links p)) (element-same (w .functions) f x y e (subst (λ (n : ℕ). getElem? (w .functions) n ≡ some y) v q)) (classed-same (g .function .name) (x .name) (sitesOf w) new (links p) (g .named) (k .classed (g .place) (g .function) (g .below) (g .is))))
+        u;
+  }
+
+  -- The functions are filed as they were.
+  pub filed-still : SomeFiled b new (p .functions) (room p) (length new - room p - p .functions)
+  filed-still = record {
+    functions = w .functions;
+    tabled = tabled-still;
+    filed = filed-there;
+    fits = omega (arith, l .fits, k .length);
+    some = omega (arith, l .fits, k .length);
+  }
+
 pub classes-none : (w : Program) (m : List ℕ) (p : Plan) → ClassesWritten w m m p 0
-classes-none w m p = record { length = refl; before = λ k h. refl; nexts = λ i. refl; classed = λ f x h e. absurd (omega arith) }
+classes-none w m p = record { length = refl; before = λ k h. refl; behind = λ k h. refl; nexts = λ i. refl; classed = λ f x h e. absurd (omega arith) }
+
+-- A function that is not the first of its name has an earlier one.
+pub earlier-named : (fs : List Function) (f g : ℕ) (x : Function) → getElem? fs f ≡ some x → First (isNamed (x .name)) 0 fs g → (g ≡ f → ⊥) → Earlier fs f x
+unfolding isNamed
+earlier-named fs f g x q c n =
+    let z = element-at fs g (omega (arith, own-first fs f g x q c, element-below fs f x q)) in record {
+      place = g;
+      function = z .element;
+      below = omega (arith, own-first fs f g x q c, n);
+      is = z .is;
+      named = c .found (z .element) (z .is);
+    }

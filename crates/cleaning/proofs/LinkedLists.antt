@@ -14,7 +14,7 @@ use Rattle.index.specs.declared.Plan.{Plan}
 use Rattle.index.specs.First.{First}
 use Rattle.index.specs.Bucket.{Filed}
 use Rattle.told.specs.Calls.{isListed}
-use Rattle.index.specs.Layout.{heads, lines, calls, links}
+use Rattle.index.specs.Layout.{heads, lines, calls, links, room}
 use Rattle.told.specs.Numbered.{sentencesBefore, sitesOf}
 use Rattle.index.specs.Tables.{FunctionEntry, SentenceEntry, SitesAt, Apart}
 use Rattle.index.specs.Tabled.{Tabled, SomeFiled}
@@ -104,12 +104,20 @@ module _ {b m : List ℕ} {p : Plan} {w : Program} (l : ProgramListed b w m p) (
           linked-here : (i : ℕ) → getD m₅ (r + p .sites + i) 0 ≡ getD m₄ (r + p .sites + i) 0
           linked-here i = a₅ .after (r + p .sites + i) (λ v. omega (arith, v, e))
 
+          filed-shared : Filed (w .functions) m₅ (room p) (room p + p .functions) (length m₅ - room p - p .functions) 0
+          filed-shared = subst
+              (λ (n : ℕ). Filed (w .functions) m₅ (room p) (room p + p .functions) n 0)
+              (omega (arith, e, lists-kept .length))
+              (subst (λ (k : ℕ). Filed (w .functions) m₅ k (k + p .functions) (length m - (r + p .sites + p .sites + p .functions)) 0) (omega (arith, e)) (filed-apart a₅ wide (indexed-linked .filed)))
+
           pub chains-linked : Headed (w .functions) (sitesOf w) m₅ (p .functions) → Chained (w .functions) (sitesOf w) m₄ (r + p .sites) 0 → Chains b w m₅ p
           chains-linked h c = record {
             functions = l .functions;
             sites = l .sites;
             fits = omega (arith, l .fits, lists-kept .length);
             small = omega (arith, l .small, lists-kept .length);
+            function = tabled-same (indexed-linked .tabled) (λ k h. a₅ .before k h) (a₅ .length);
+            filed = filed-shared;
             site = sites-same (l .site) (λ i u. lists-kept .columns (calls p + i) (omega arith) (omega (arith, u, l .sites)));
             headed = h;
             chained = subst (λ (k : ℕ). Chained (w .functions) (sitesOf w) m₅ (k + p .sites) 0) e (record { chain = λ kind f x q. record { next = λ i y u v t. subst (λ (k : ℕ). First (isListed kind (x .name)) (suc i) (sitesOf w) (entryNext k)) (sym (linked-here i)) (c .chain kind f x q .next i y u v t) } });

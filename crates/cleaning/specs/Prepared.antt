@@ -1,13 +1,17 @@
 -- Work when it has been filled from a body: first the lists, then the links.
-use Prim.Native.Nat.{ℕ, _+_, _*_, _<_, _≤_}
+use Prim.Native.Nat.{ℕ, _+_, _-_, _*_, _<_, _≤_}
 use mathlib.Core.Path.{_≡_}
+use mathlib.Core.Bool.{true}
 use mathlib.Core.List.{List}
 use mathlib.Core.Option.{some}
 use lib.ListN.{length, getD, getElem?, drop}
 use Rattle.program.specs.Syntax.{Function, Program}
 use Rattle.program.specs.Sentences.{ownSentences}
 use Rattle.image.specs.Parts.{FunctionsAt}
+use Rattle.patterns.specs.Names.{sameName}
 use Rattle.index.specs.declared.Plan.{Plan}
+use Rattle.index.specs.Bucket.{Filed}
+use Rattle.index.specs.Tabled.{Tabled}
 use Rattle.index.specs.Layout.{heads, lines, witnesses, calls, links, room}
 use Rattle.index.specs.Tables.{FunctionsIn, SentencesIn, SitesAt}
 use Rattle.index.specs.Links.{entryNext, Headed, Chained, Classed}
@@ -50,12 +54,14 @@ pub record SomeListing (b m : List ℕ) (p : Plan) : Type 0 where
   pub program : Program
   pub listed : ProgramListed b program m p
 
--- The lists of every function's sites stand, without classes.
+-- The lists of every function's sites stand, without classes, and the functions are filed still.
 pub record Chains (b : List ℕ) (w : Program) (m : List ℕ) (p : Plan) : Type 0 where
   pub functions : length (w .functions) ≡ p .functions
   pub sites : length (sitesOf w) ≡ p .sites
-  pub fits : room p ≤ length m
+  pub fits : room p + p .functions < length m
   pub small : length m ≤ 8192
+  pub function : Tabled b m (p .functions) (w .functions)
+  pub filed : Filed (w .functions) m (room p) (room p + p .functions) (length m - room p - p .functions) 0
   pub site : SitesAt b (sitesOf w) m (calls p)
   pub headed : Headed (w .functions) (sitesOf w) m (heads p)
   pub chained : Chained (w .functions) (sitesOf w) m (links p) 0
@@ -70,12 +76,28 @@ pub record ListsKept (old new : List ℕ) (p : Plan) : Type 0 where
   pub functions : (k : ℕ) → k < p .functions → getD new k 0 ≡ getD old k 0
   pub columns : (k : ℕ) → lines p ≤ k → k < links p → getD new k 0 ≡ getD old k 0
 
--- The sites of the first `count` functions have their classes; nothing before the links has changed, and no list.
+-- The sites of the first `count` functions have their classes; nothing before the links or behind them has changed, and no list.
 pub record ClassesWritten (w : Program) (old new : List ℕ) (p : Plan) (count : ℕ) : Type 0 where
   pub length : length new ≡ length old
   pub before : (k : ℕ) → k < links p → getD new k 0 ≡ getD old k 0
+  pub behind : (k : ℕ) → room p ≤ k → getD new k 0 ≡ getD old k 0
   pub nexts : (i : ℕ) → entryNext (getD new (links p + i) 0) ≡ entryNext (getD old (links p + i) 0)
   pub classed : (f : ℕ) (x : Function) → f < count → getElem? (w .functions) f ≡ some x → Classed (x .name) (sitesOf w) new (links p)
+
+-- An earlier function has the name of x, the f-th.
+pub record Earlier (fs : List Function) (f : ℕ) (x : Function) : Type 0 where
+  pub place : ℕ
+  pub function : Function
+  pub below : place < f
+  pub is : getElem? fs place ≡ some function
+  pub named : sameName (function .name) (x .name) ≡ true
+
+pub record SomeClassing (b m : List ℕ) (p : Plan) (f : ℕ) : Type 0 where
+  pub program : Program
+  pub old : List ℕ
+  pub chains : Chains b program old p
+  pub written : ClassesWritten program old m p f
+  pub below : f < p .functions
 
 -- The sites are linked too: nothing fell, nothing was asked.
 pub record ProgramLinked (b : List ℕ) (w : Program) (m : List ℕ) (p : Plan) : Type 0 where

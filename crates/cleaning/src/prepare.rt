@@ -8,13 +8,21 @@ use index::links::share_heads;
 use index::listing::fill;
 use index::listing::list_functions;
 use index::names::file_functions;
+use index::names::function_name;
+use index::names::function_named;
 use index::table::head_site;
 use restrictions::program_sites;
 ghost use mathlib.Core.Path.{_≡_};
-ghost use lib.ListN.{length};
-ghost use Rattle.program.specs.Syntax.{Program};
+ghost use mathlib.Core.Bool.{false};
+ghost use mathlib.Core.List.{List};
+ghost use mathlib.Core.Option.{some};
+ghost use Prim.Native.Nat.{ℕ, _+_, _<_, _≤_};
+ghost use lib.ListN.{length, getElem?};
+ghost use Rattle.program.specs.Syntax.{Function, Program};
 ghost use Rattle.program.specs.Sentences.{ownSentences};
-ghost use Rattle.cleaning.specs.Prepared.{BodyOf, SomeProgram, ProgramListed, SomeListing, Chains, SomeChains, ListsKept, ClassesWritten, ProgramLinked};
+ghost use Rattle.index.specs.Bucket.{Filed};
+ghost use Rattle.index.specs.Tabled.{Tabled, SomeFiled};
+ghost use Rattle.cleaning.specs.Prepared.{BodyOf, SomeProgram, ProgramListed, SomeListing, Chains, SomeChains, ListsKept, ClassesWritten, Earlier, SomeClassing, ProgramLinked};
 
 // Lists the functions, the sentences and the sites of the program whose functions stand from `from` on; how many sites.
 pub fn list_program(
@@ -34,17 +42,38 @@ pub fn list_program(
     program_sites(b, from, &mut work[calls..], 0)
 }
 
-// Classes of repeats in the list of every function.
+// Whether no earlier function has the name of the f-th; the functions are filed, their links at `at`.
+fn is_first(b: &[u8], work: &[u32], functions: usize, at: usize, n: usize, f: usize) -> bool
+    requires { ⌜ SomeFiled (now b) (now work) functions at n × (length (now work) ≤ 32768) × (f < functions) ⌝ }
+    ensures { λ r. ⌜ ((fs : List Function) (x : Function) → Tabled (now (b .entry)) (now (work .entry)) functions fs → Filed fs (now (work .entry)) at (at + functions) n 0 → getElem? fs f ≡ some x → r ≡ false → Earlier fs f x) ⌝ }
+{
+    let p = (work[f] % 32768) as usize;
+    function_named(b, work, functions, at, n, function_name(b, p)) == f
+}
+
+// Classes of repeats in the list of the f-th function. A later function of a name has the list of the first, which is classed.
+fn class_function(b: &[u8], work: &mut [u32], plan: Plan, f: usize)
+    requires { ⌜ SomeClassing (now b) (now work) plan f ⌝ }
+    ensures { λ _. ⌜ ((w : Program) (old : List ℕ) → Chains (now (b .entry)) w old plan → ClassesWritten w old (now (work .entry)) plan f → ClassesWritten w old (now (work .exit)) plan (f + 1)) ⌝ }
+{
+    let calls = calls_of(plan);
+    let links = links_of(plan);
+    let at = links + plan.sites;
+    let n = work.len() - at - plan.functions;
+    if is_first(b, work, plan.functions, at, n, f) {
+        let head = head_site(work, plan.functions, f, true);
+        class_list(b, work, calls, links, plan.sites, head);
+    }
+}
+
+// The same for every function.
 fn class_sites(b: &[u8], work: &mut [u32], plan: Plan)
     requires { ⌜ SomeChains (now b) (now work) plan ⌝ }
     ensures { λ _. ⌜ ((w : Program) → Chains (now (b .entry)) w (now (work .entry)) plan → ClassesWritten w (now (work .entry)) (now (work .exit)) plan (plan .functions)) ⌝ }
 {
-    let calls = calls_of(plan);
-    let links = links_of(plan);
     let mut f = 0;
     while f < plan.functions {
-        let head = head_site(work, plan.functions, f, true);
-        class_list(b, work, calls, links, plan.sites, head);
+        class_function(b, work, plan, f);
         f += 1;
     }
 }

@@ -1,19 +1,20 @@
 """Writes the corpus that the expression entry point is replayed on.
 
-    python3 tools/expression_vectors.py > corpus      which tools/expressions.c replays
+    python3 tools/expression_vectors.py > crates/vectors/data/expression
     python3 tools/expression_vectors.py check COUNT
 
 The stream is records of 16 bytes, little-endian: image length (u16), first and
 second sentence number (u16 each; 65535 stands for the largest usize), length of
 the lent slice (u16), expected number (u8, 0 or the refusal), expected verdict (u8:
 0 Disjoint, 1 Overlap, 2 Unknown), expected entries spent (u16), expected place
-(u16), and expected length of the expression (u16; 0 where nothing is written). If the image length is not 0, that many image
-bytes follow and become the current image; then the expression's bytes.
+(u16), and expected length of the expression (u16; 0 where nothing is written). If the
+image length is not 0, that many image bytes follow and become the current image; then
+the expression's bytes. `crates/vectors` replays them on the entry point, and
+`tools/expressions.c` on the static library.
 
 Every answer is computed here: the search is written from document 01 ("The overlap
 verdict") and the expression from document 02, request 5, in one descent, so that the
-code in crates/, which asks the search again at each split, is held to another form of
-the same definition. Refusals 1 and 4 to 11 come from reader.py. Each expression is also
+code in crates/, a search and then a walk, is held to another form of the same definition. Refusals 1 and 4 to 11 come from reader.py. Each expression is also
 given to a matcher that knows nothing of the search, and has to match both patterns.
 
 `check` makes COUNT random pairs and says how many of each verdict there were, and that

@@ -6,7 +6,7 @@ use crate::records::pair;
 use answers::CleanAnswer;
 
 // What the lent bytes and entries hold before the call: not zero, so that a change is seen.
-const LENT_BYTE: u8 = 165;
+pub const LENT_BYTE: u8 = 165;
 
 const LENT_ENTRY: u32 = 2779096485;
 
@@ -86,7 +86,7 @@ fn is_same(a: Values, b: Values) -> bool {
 }
 
 // Whether the bytes begin with the text and are as they were lent after it.
-fn is_written(text: &[u8], bytes: &[u8]) -> bool {
+pub fn is_written(text: &[u8], bytes: &[u8]) -> bool {
     if bytes.len() < text.len() {
         return false;
     }

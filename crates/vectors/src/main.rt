@@ -1,5 +1,6 @@
 // Replays the stored questions of each file of data/ and compares each answer with the stored one.
 mod clean_answers;
+mod expression_answers;
 mod image_answers;
 mod name_answers;
 mod overlap_answers;
@@ -13,6 +14,7 @@ enum Kind {
     Names,
     Image,
     Overlap,
+    Expression,
     Clean,
 }
 
@@ -29,6 +31,7 @@ fn ask_next(
         Kind::Names => name_answers::ask_next(fd, buf, output),
         Kind::Image => image_answers::ask_next(fd, buf, n),
         Kind::Overlap => overlap_answers::ask_next(fd, buf, n),
+        Kind::Expression => expression_answers::ask_next(fd, buf, n, output),
         Kind::Clean => clean_answers::ask_next(fd, buf, n, output, report),
     }
 }
@@ -98,5 +101,6 @@ fn main() {
     replay_file(b"names", Kind::Names);
     replay_file(b"image", Kind::Image);
     replay_file(b"overlap", Kind::Overlap);
+    replay_file(b"expression", Kind::Expression);
     replay_file(b"clean", Kind::Clean);
 }

@@ -23,7 +23,7 @@ struct Values {
 }
 
 // A sentence number as stored: 65535 stands for the largest that a caller can give.
-fn sentence_number(stored: usize) -> usize {
+pub fn sentence_number(stored: usize) -> usize {
     if stored == 65535 {
         18446744073709551615
     } else {
@@ -50,7 +50,7 @@ fn read_question(h: &[u8; 12]) -> Question {
     }
 }
 
-fn verdict_number(v: Verdict) -> u8 {
+pub fn verdict_number(v: Verdict) -> u8 {
     match v {
         Verdict::Disjoint => 0,
         Verdict::Overlap => 1,

@@ -26,6 +26,8 @@ pub mod RunComputing
 pub mod RunExamples
 pub mod SameRun
 pub mod Unwatched
+pub mod Space
+pub mod Ahead
 pub mod Inputs
 pub mod WatchComputing
 pub mod WatchExamples

@@ -20,7 +20,7 @@ abbrev pub unwatched : Watch
 unwatched = record { heavy = λ _. false; long = λ _. false }
 
 -- What the run has of what a watched run has.
-abbrev forget : Load → State
+abbrev pub forget : Load → State
 forget s = record { calls = s .calls; answers = s .answers; events = s .events }
 
 abbrev SameStop : Ending → State → Stop → Load → Type 0

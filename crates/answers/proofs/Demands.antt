@@ -5,7 +5,7 @@ use native.Mathlib.Omega.{arith}
 use mathlib.Core.Path.{_≡_, refl, sym, ap, subst, _∙_}
 use mathlib.Core.Logic.{_↔_, _⊎_, inl, inr}
 use mathlib.Core.Bool.{Bool, true, false, cond}
-use mathlib.Core.List.{List, [], _++_}
+use mathlib.Core.List.{List, [], _∷_, _++_}
 use lib.Dec.{eqb}
 use lib.ListN.{length, take, drop, getElem?}
 use Rattle.program.specs.Syntax.{Terms, Program}
@@ -35,9 +35,12 @@ use Rattle.meaning.specs.Run as the-run
 use Rattle.meaning.proofs.Fewer.{cleaned-valid}
 use Rattle.meaning.proofs.Compared.{Compares, compares-plain}
 use Rattle.meaning.specs.Counted.{droppedInAll, functionsWithAny}
-use Rattle.meaning.specs.Watch.{Watch, ended, watchedRun}
+use Rattle.meaning.specs.Records.{putEvents, bytesOf, eventBytes}
+use Rattle.meaning.specs.Inputs.{inputOf, answersOf}
+use Rattle.meaning.specs.Watch.{Watch, ended, tooHeavy, tooLong, WatchedOutcome, lent, watchedRun}
 use Rattle.meaning.proofs.SameRun.{same-run, same-watched}
 use Rattle.meaning.proofs.Unwatched.{unwatched, unwatched-run as without-watch}
+use Rattle.meaning.proofs.Ahead.{Begins, ends-as-run, begins-run}
 use Rattle.meaning.proofs.Bound.{all-rounds-few, all-dropped-add-up}
 use Rattle.meaning.proofs.Twice.{clean-twice, twice-removed, twice-rounds}
 use Rattle.answers.specs.declared.CleanAnswer.{CleanAnswer}
@@ -46,9 +49,11 @@ use Rattle.answers.specs.Answers.{comparePatterns, overlapAnswer, Overla
 use Rattle.answers.specs.CleanAnswers.{Lent, Left, cleanedTo, zeroed, written, cleanAnswer, CleanValues, cleanValues}
 use Rattle.answers.specs.Packed.{cleanFields, overlapFields, packClean, packOverlap, CleanFits}
 use Rattle.answers.specs.ExpressionAnswers.{ExpressionLeft, sharedExpression, ofVerdict, expressionAnswer, ExpressionValues, expressionValues, expressionFields, packExpression}
+use Rattle.answers.specs.RunAnswers.{RunLeft, endingNumber, stopBytes, runOf, runAnswer, RunValues, runValues}
 use Rattle.answers.proofs.Fitting.{Unpacks, unpacks, overlap-fits}
 use Rattle.answers.proofs.Exactly.{CleanRefuses, CleanAccepts, untouched, clean-refuses, clean-accepts, clean-case, clean-number, OverlapRefuses, OverlapAccepts, overlap-refuses, overlap-accepts, overlap-case, overlap-number}
 use Rattle.answers.proofs.SharedExpression.{ExpressionRefuses, ExpressionAccepts, expression-refuses, expression-accepts, expression-number, expression-told, expression-zero, expression-fits, meeting-coded, overlap-shared}
+use Rattle.answers.proofs.RunExactly.{Runs, RunRefuses, RunEnds, run-refused-before, run-ends, run-number, run-told, run-zero, run-wrote, bytes-fit, events-first, value-behind, same-inputs}
 use Rattle.answers.proofs.Numbers.{clean-told, clean-refused-told, overlap-told, overlap-refused-told, written-back, written-past, written-length}
 
 -- ---- Demand 1: "an accepted answer or one of refusals 1 to 13, each on its listed condition and on no other. A refusal writes nothing into the output or the report."
@@ -273,3 +278,66 @@ expression-unpacks image bytes first second lent = unpacks (expressionFields (ex
 -- Where the middle holds the verdict v and the entries spent s, they are found again in it.
 pub expression-middle : (v s : ℕ) → v < 4 → ((v + 4 * s) % 4 ≡ v) × ((v + 4 * s) / 4 ≡ s)
 expression-middle v s h = (omega (arith, h), omega (arith, h))
+
+-- ---- Document 02, request 1: "It writes the event list of document 01's run and returns its length and the ending"; "Demand 1 lists every refusal added from here on."
+
+module _ (image input answers : List ℕ) (limit : ℕ) (events : List ℕ) where
+  abbrev pub runNumbers : RunValues
+  runNumbers = runValues (runAnswer image input answers limit events .answer)
+
+  -- Number n with place p comes exactly if n's condition holds and no earlier one does (`RunRefuses` lists them); 0 comes exactly if the run ends in one of the six ways.
+  pub run-refused : (n p : ℕ) → 1 ≤ n → ((runNumbers .number ≡ n) × (runNumbers .place ≡ p)) ↔ RunRefuses image input answers limit events n p
+  run-refused n p h = let k = run-told image input answers limit events n p h in (k .0, k .1)
+
+  pub run-ended : (runNumbers .number ≡ 0) ↔ ((w : Program) × (v : Expression) × (l : List Expression) × (e : the-run.Ending) × RunEnds image input answers limit events w v l e)
+  run-ended = let k = run-zero image input answers limit events in (k .0, k .1)
+
+  pub run-numbers : (n p : ℕ) → RunRefuses image input answers limit events n p → (n ≡ 1) ⊎ ((4 ≤ n) × (n ≤ 11)) ⊎ ((14 ≤ n) × (n ≤ 16))
+  run-numbers = run-number image input answers limit events
+
+  -- A refusal before the run writes nothing.
+  pub run-refusal-writes-nothing : (n p : ℕ) → RunRefuses image input answers limit events n p → n ≤ 14 → runAnswer image input answers limit events .events ≡ events
+  run-refusal-writes-nothing n p h s = ap (λ (x : RunLeft). x .events) (run-refused-before image input answers limit events n p h s)
+
+  module _ (w : Program) (v : Expression) (l : List Expression) (runs : Runs image input answers w v l) where
+    -- The run that is watched by the lent list, and how many bytes its events have.
+    abbrev pub watched : WatchedOutcome
+    watched = watchedRun (lent (length events)) w v l limit
+
+    abbrev pub told : ℕ
+    told = eventBytes (watched .events)
+
+    pub run-answered : (e : the-run.Ending) → watched .stop ≡ ended e → runNumbers ≡ record { number = 0; place = 0; ending = endingNumber e; length = told }
+    unfolding runValues
+    run-answered e h = ap runValues (run-ends image input answers limit events w v l e (record { runs = runs; ends = h }))
+
+    -- The events are document 01's run's, and so is the ending; where 15 or 16 is met, those before it begin the run's.
+    pub run-is-the-run : (e : the-run.Ending) → watched .stop ≡ ended e → the-run.run w v l limit ≡ record { events = watched .events; ending = e }
+    run-is-the-run e h = ends-as-run (lent (length events)) w v l limit e h
+
+    pub run-begins-the-run : (watched .stop ≡ tooHeavy) ⊎ (watched .stop ≡ tooLong) → Begins (watched .events) (the-run.run w v l limit .events)
+    run-begins-the-run h = begins-run (lent (length events)) w v l limit h
+
+    -- The list at exit: the events, "those before it" at 15 and 16 too; then the root's value and its close; the rest as it was.
+    abbrev pub left : List ℕ
+    left = runAnswer image input answers limit events .events
+
+    wrote-all : left ≡ written (putEvents (watched .events) (stopBytes (watched .stop))) events
+    wrote-all = run-wrote image input answers limit events w v l runs
+
+    pub run-wrote-events : take told left ≡ putEvents (watched .events) []
+    run-wrote-events = ap (take told) wrote-all ∙ events-first (watched .events) (stopBytes (watched .stop)) events
+
+    pub run-wrote-value : (u : Expression) → watched .stop ≡ ended (the-run.value u) → take (bytesOf u + 1) (drop told left) ≡ putExpression u (15 ∷ [])
+    run-wrote-value u h = ap (λ (x : List ℕ). take (bytesOf u + 1) (drop told x)) wrote-all ∙ value-behind (watched .events) u (watched .stop) h events
+
+    pub run-wrote-no-more : (length left ≡ length events) × (drop (length (putEvents (watched .events) (stopBytes (watched .stop)))) left ≡ drop (length (putEvents (watched .events) (stopBytes (watched .stop)))) events)
+    run-wrote-no-more =
+        let s = putEvents (watched .events) (stopBytes (watched .stop)) in
+        (ap length wrote-all ∙ written-length s events (bytes-fit image input answers limit events w v l runs), ap (drop (length s)) wrote-all ∙ written-past s events)
+
+-- "so a cleaned and an uncleaned show leave the same list": what Clean wrote, run in place of the image, gives the same answer and leaves the same list, refusals included.
+pub same-answers : (image : List ℕ) → Bytes image → (lends : Lent) (w : Program) → CleanAccepts image lends w → (input answers : List ℕ) (limit : ℕ) (events : List ℕ)
+    → runAnswer (wrote image lends) input answers limit events ≡ runAnswer image input answers limit events
+unfolding runAnswer runOf
+same-answers image bytes lends w accepts input answers limit events = rw (wrote-accepted image bytes lends w accepts, accepts .accepted) (same-inputs w (inputOf input) (answersOf answers) limit events)

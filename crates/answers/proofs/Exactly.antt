@@ -85,10 +85,10 @@ image-number image _ _ (ImageRefuses.by-5-to-10 {number} {left} k e) = let h = r
 image-number image _ _ (ImageRefuses.by-11 k e a) = (omega arith, omega arith)
 
 -- An image of some size is refused or accepted.
-abbrev ImageCase : List ℕ → Type 0
+abbrev pub ImageCase : List ℕ → Type 0
 ImageCase image = ((n : ℕ) × (p : ℕ) × ImageRefuses image n p) ⊎ ((w : Program) × (decode image ≡ Answer.accepted w))
 
-image-case : (image : List ℕ) → sized image ≡ true → ImageCase image
+pub image-case : (image : List ℕ) → sized image ≡ true → ImageCase image
 image-case image h = pointing (pointed image) refl
   where
     agreeing : pointed image ≡ true → (w : Program) → run Stack.body 0 (bodyOf image) ≡ Read.value w → (t : Bool) → agrees image w ≡ t → ImageCase image

@@ -2,4 +2,5 @@ pub mod Fitting
 pub mod Exactly
 pub mod Numbers
 pub mod SharedExpression
+pub mod RunExactly
 pub mod Demands

@@ -2,3 +2,4 @@ pub mod Answers
 pub mod CleanAnswers
 pub mod Packed
 pub mod ExpressionAnswers
+pub mod RunAnswers

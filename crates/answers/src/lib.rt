@@ -35,3 +35,14 @@ pub enum ExpressionAnswer {
     Compared(Sharing),
     Refused(Refusal),
 }
+
+// How a run ended, and how many bytes its events have.
+pub struct Ran {
+    pub ending: u32,
+    pub length: usize,
+}
+
+pub enum RunAnswer {
+    Ended(Ran),
+    Refused(Refusal),
+}

@@ -28,6 +28,7 @@ pub mod SameRun
 pub mod Unwatched
 pub mod Space
 pub mod Ahead
+pub mod Told
 pub mod Inputs
 pub mod WatchComputing
 pub mod WatchExamples

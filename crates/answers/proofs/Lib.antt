@@ -3,4 +3,5 @@ pub mod Exactly
 pub mod Numbers
 pub mod SharedExpression
 pub mod RunExactly
+pub mod RunExamples
 pub mod Demands

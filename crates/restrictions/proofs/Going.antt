@@ -163,6 +163,16 @@ module _ {b s : List ℕ} {k : ℕ} {old : List ℕ} {n : ℕ} {new : List ℕ} 
     descended {w = w} z =
         going-on (recordSites (list-in .list)) (z .appended) (list-in .others) (g .first) (g .after) (g .later) (sym (part-part s i (w .at)) ∙ z .left) (inner-valid .1) (g .valid) (omega (arith, g .lists, ap length (list-in .is))) (stage-on (omega arith) refl (g .stage)) left-is
 
+    -- It is empty.
+    pub skipped : getD (part s i) 0 0 ≡ 15 → Going b s k old n new (i + 1) c (q - 1) next r
+    skipped m =
+        let h = close-here inner-rest (list-in .list) (inner-valid .0) (omega (arith, m, ap (λ (l : List ℕ). getD l 0 0) (inner-reading .is))) in
+        descended {w = record { at = 1; count = c }} (record {
+          appended = subst (λ (l : List Site). Appended b new c c new (heldBy k l)) (sym (h .sites)) nothing-listed;
+          left = ap (drop 1) (inner-reading .is) ∙ h .is;
+          fits = omega (arith, going-within, part-length s i);
+        })
+
   -- None is.
   module _ (u : q ≤ 0) where
     pub none-opened : g .opened ≡ []

@@ -99,7 +99,7 @@ fn after_conditions(m: u8, p: usize) -> usize
 
 // Lists the sites of the records at the start of a part, up to their close, after n others: an outer call before those in
 // its argument, a sentence's result before its conditions, none of a pattern. The part stands at `at` of the body. A list
-// inside is a part of this one, and `lists` of them begin at i. In a sentence, `next` is where its result or conditions lead.
+// inside is a part of this one, and `lists` of them begin at i; an empty one has only its close. In a sentence, `next` is where its result or conditions lead.
 fn collect_call_sites(part: &[u8], at: usize, sentence: usize, sites: &mut [u32], n: usize) -> Walk
     requires { ⌜ (at + length (now part) ≤ 32768) × (sentence < 4096) × RoomFor (now part) n (length (now sites)) ⌝ }
     ensures { λ w. ⌜ ((b : List ℕ) (r : RecordsAt (now (part .entry))) → drop at b ≡ now (part .entry) → Collected b (now (part .entry)) sentence (now (sites .entry)) n (now (sites .exit)) w r) ⌝ }
@@ -112,10 +112,14 @@ fn collect_call_sites(part: &[u8], at: usize, sentence: usize, sites: &mut [u32]
         let x = &part[i..];
         let m = x[0];
         if 0 < lists {
-            let w = collect_call_sites(x, at + i, sentence, sites, k);
-            i += w.at;
-            k = w.count;
             lists -= 1;
+            if m == 15 {
+                i += 1;
+            } else {
+                let w = collect_call_sites(x, at + i, sentence, sites, k);
+                i += w.at;
+                k = w.count;
+            }
         } else if m < 7 {
             i += term_len(x);
         } else if m == 8 {

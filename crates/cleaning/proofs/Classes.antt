@@ -15,7 +15,7 @@ use Rattle.restrictions.specs.Entries.{Entry}
 use Rattle.index.specs.declared.Plan.{Plan}
 use Rattle.index.specs.First.{First}
 use Rattle.told.specs.Calls.{isCallOf, isListed}
-use Rattle.index.specs.Layout.{calls, links, room}
+use Rattle.index.specs.Layout.{calls, links, notes}
 use Rattle.index.specs.Bucket.{bucketOf, inBucket, isNamed, Filed}
 use Rattle.index.specs.Tabled.{Tabled, SomeFiled}
 use Rattle.index.specs.Links.{listHead, entryClass, isRepeat, Classed}
@@ -29,7 +29,7 @@ use Rattle.index.proofs.Preserved.{tabled-same}
 use Rattle.cleaning.specs.Prepared.{Chains, ClassesWritten, Earlier}
 
 -- Two functions that both have the site y have one name.
-one-name : (f g : Name) (y : Held) → isListed true f y ≡ true → isListed true g y ≡ true → sameName f g ≡ true
+pub one-name : (f g : Name) (y : Held) → isListed true f y ≡ true → isListed true g y ≡ true → sameName f g ≡ true
 unfolding isCallOf
 one-name f g y a b = sameName-trans f (y .site .callee) g (sameName-sym f (y .site .callee) ∙ listed-call f y true a) (listed-call g y true b)
 
@@ -83,13 +83,13 @@ module _ {b old new : List ℕ} {p : Plan} {w : Program} (l : Chains b w old p) 
   pub tabled-still : Tabled b new (p .functions) (w .functions)
   tabled-still = tabled-same (l .function) (λ j h. k .before j (omega (arith, h))) (k .length)
 
-  pub filed-there : Filed (w .functions) new (room p) (room p + p .functions) (length new - room p - p .functions) 0
+  pub filed-there : Filed (w .functions) new (notes p) (notes p + p .functions) (length new - notes p - p .functions) 0
   filed-there = subst
-      (λ (n : ℕ). Filed (w .functions) new (room p) (room p + p .functions) n 0)
+      (λ (n : ℕ). Filed (w .functions) new (notes p) (notes p + p .functions) n 0)
       (omega (arith, k .length))
       (record {
-        bucket = λ j h. subst (First (inBucket (length old - room p - p .functions) j) 0 (w .functions)) (sym (k .behind (room p + p .functions + j) (omega arith))) (l .filed .bucket j h);
-        link = λ j x h q. subst (First (inBucket (length old - room p - p .functions) (bucketOf (length old - room p - p .functions) (x .name))) (suc j) (w .functions)) (sym (k .behind (room p + j) (omega arith))) (l .filed .link j x h q);
+        bucket = λ j h. subst (First (inBucket (length old - notes p - p .functions) j) 0 (w .functions)) (sym (k .behind (notes p + p .functions + j) (omega arith))) (l .filed .bucket j h);
+        link = λ j x h q. subst (First (inBucket (length old - notes p - p .functions) (bucketOf (length old - notes p - p .functions) (x .name))) (suc j) (w .functions)) (sym (k .behind (notes p + j) (omega arith))) (l .filed .link j x h q);
       })
 
   pub classes-next : (x : Function) → getElem? (w .functions) f ≡ some x → (r : ℕ) → r ≡ links p → {next : List ℕ} → Classed (x .name) (sitesOf w) next r → OnlyClasses (x .name) (sitesOf w) new next r → ClassesWritten w old next p (f + 1)
@@ -111,7 +111,7 @@ module _ {b old new : List ℕ} {p : Plan} {w : Program} (l : Chains b w old p) 
   }
 
   -- The functions are filed as they were.
-  pub filed-still : SomeFiled b new (p .functions) (room p) (length new - room p - p .functions)
+  pub filed-still : SomeFiled b new (p .functions) (notes p) (length new - notes p - p .functions)
   filed-still = record {
     functions = w .functions;
     tabled = tabled-still;

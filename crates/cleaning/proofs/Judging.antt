@@ -62,7 +62,7 @@ module _ (p : Plan) (old new : List ℕ) (a b : ℕ) (within : b ≤ p .sentence
   witnesses-only = record {
     length = h .length;
     before = λ k l. h .before k (omega (arith, l)) (omega (arith, l));
-    after = λ k l i. h .after k i (λ e. omega (arith, e, l, within));
+    after = λ k l i. h .after k (omega (arith, i)) (λ e. omega (arith, e, l, within));
     place = λ s l. ap (λ (n : ℕ). n % 32768) (h .before (lines p + s) (omega (arith, l)) (omega (arith, l)));
   }
 

@@ -14,7 +14,7 @@ use Rattle.index.specs.declared.Plan.{Plan}
 use Rattle.index.specs.First.{First}
 use Rattle.index.specs.Bucket.{Filed}
 use Rattle.told.specs.Calls.{isListed}
-use Rattle.index.specs.Layout.{heads, lines, calls, links, room}
+use Rattle.index.specs.Layout.{heads, lines, calls, links, notes}
 use Rattle.told.specs.Numbered.{sentencesBefore, sitesOf}
 use Rattle.index.specs.Tables.{FunctionEntry, SentenceEntry, SitesAt, Apart}
 use Rattle.index.specs.Tabled.{Tabled, SomeFiled}
@@ -104,9 +104,9 @@ module _ {b m : List ℕ} {p : Plan} {w : Program} (l : ProgramListed b w m p) (
           linked-here : (i : ℕ) → getD m₅ (r + p .sites + i) 0 ≡ getD m₄ (r + p .sites + i) 0
           linked-here i = a₅ .after (r + p .sites + i) (λ v. omega (arith, v, e))
 
-          filed-shared : Filed (w .functions) m₅ (room p) (room p + p .functions) (length m₅ - room p - p .functions) 0
+          filed-shared : Filed (w .functions) m₅ (notes p) (notes p + p .functions) (length m₅ - notes p - p .functions) 0
           filed-shared = subst
-              (λ (n : ℕ). Filed (w .functions) m₅ (room p) (room p + p .functions) n 0)
+              (λ (n : ℕ). Filed (w .functions) m₅ (notes p) (notes p + p .functions) n 0)
               (omega (arith, e, lists-kept .length))
               (subst (λ (k : ℕ). Filed (w .functions) m₅ k (k + p .functions) (length m - (r + p .sites + p .sites + p .functions)) 0) (omega (arith, e)) (filed-apart a₅ wide (indexed-linked .filed)))
 

@@ -58,7 +58,7 @@ module _ {b m : List ℕ} {from functions sentences : ℕ} (enough : Enough b m)
   same : (h : FunctionsAt (drop from b)) → h .functions ≡ w .functions
   same h = one-functions h (d .reading) ∙ d .is
 
-  pub body-room : 3 * functions + 2 * sentences + (sentences + 31) / 32 + 2 * length (sitesOf w) < length m
+  pub body-room : 3 * functions + 2 * sentences + (sentences + 31) / 32 + 3 * length (sitesOf w) < length m
   body-room =
       let h = d .reading in
       let x = functions-bytes (h .functions) (h .valid) in

@@ -26,7 +26,7 @@ module _ {p : Plan} where
     used-only = record {
       length = u .length;
       before = λ k l. u .columns k (omega arith);
-      after = λ k l i. u .columns k i;
+      after = λ k l i. u .columns k (omega (arith, i));
       place = λ s l. ap (λ (v : ℕ). v % 32768) (u .columns (lines p + s) (omega arith));
     }
 

@@ -10,7 +10,7 @@ use Rattle.program.specs.Syntax.{Function, Program}
 use Rattle.program.specs.Sentences.{ownSentences}
 use Rattle.told.specs.Numbered.{sitesOf}
 use Rattle.index.specs.declared.Plan.{Plan}
-use Rattle.index.specs.Layout.{heads, lines, marks, calls, links, room}
+use Rattle.index.specs.Layout.{heads, lines, marks, calls, links, notes, room}
 use Rattle.index.specs.Tables.{FunctionsIn, SentencesIn, SitesAt}
 use Rattle.index.specs.Links.{Headed, Chained, Classed}
 
@@ -42,9 +42,9 @@ pub record SomeBody (m : List ℕ) (p : Plan) : Type 0 where
 unfoldable pub fellOf : Plan → List ℕ → ℕ → ℕ
 fellOf p m s = cond (ltb s (p .sentences)) (getD m (lines p + s) 0 / 32768 % 4096) 0
 
--- Only rounds and witnesses have been written, and the room: places of sentences, and all other columns, are as they were.
+-- Only rounds, witnesses and notes have been written, and the room: places of sentences, and all other columns, are as they were.
 pub record OnlyRounds (p : Plan) (old new : List ℕ) : Type 0 where
   pub length : length new ≡ length old
   pub before : (k : ℕ) → k < lines p → getD new k 0 ≡ getD old k 0
-  pub after : (k : ℕ) → marks p ≤ k → k < room p → getD new k 0 ≡ getD old k 0
+  pub after : (k : ℕ) → marks p ≤ k → k < notes p → getD new k 0 ≡ getD old k 0
   pub place : (s : ℕ) → s < p .sentences → getD new (lines p + s) 0 % 32768 ≡ getD old (lines p + s) 0 % 32768

@@ -12,7 +12,7 @@ use Rattle.patterns.specs.Names.{sameName}
 use Rattle.index.specs.declared.Plan.{Plan}
 use Rattle.index.specs.Bucket.{Filed}
 use Rattle.index.specs.Tabled.{Tabled}
-use Rattle.index.specs.Layout.{heads, lines, witnesses, calls, links, room}
+use Rattle.index.specs.Layout.{heads, lines, witnesses, calls, links, notes, room}
 use Rattle.index.specs.Tables.{FunctionsIn, SentencesIn, SitesAt}
 use Rattle.index.specs.Links.{entryNext, Headed, Chained, Classed}
 use Rattle.told.specs.Numbered.{sitesOf}
@@ -61,7 +61,7 @@ pub record Chains (b : List ℕ) (w : Program) (m : List ℕ) (p : Plan) : Type 
   pub fits : room p + p .functions < length m
   pub small : length m ≤ 8192
   pub function : Tabled b m (p .functions) (w .functions)
-  pub filed : Filed (w .functions) m (room p) (room p + p .functions) (length m - room p - p .functions) 0
+  pub filed : Filed (w .functions) m (notes p) (notes p + p .functions) (length m - notes p - p .functions) 0
   pub site : SitesAt b (sitesOf w) m (calls p)
   pub headed : Headed (w .functions) (sitesOf w) m (heads p)
   pub chained : Chained (w .functions) (sitesOf w) m (links p) 0
@@ -80,7 +80,7 @@ pub record ListsKept (old new : List ℕ) (p : Plan) : Type 0 where
 pub record ClassesWritten (w : Program) (old new : List ℕ) (p : Plan) (count : ℕ) : Type 0 where
   pub length : length new ≡ length old
   pub before : (k : ℕ) → k < links p → getD new k 0 ≡ getD old k 0
-  pub behind : (k : ℕ) → room p ≤ k → getD new k 0 ≡ getD old k 0
+  pub behind : (k : ℕ) → notes p ≤ k → getD new k 0 ≡ getD old k 0
   pub nexts : (i : ℕ) → entryNext (getD new (links p + i) 0) ≡ entryNext (getD old (links p + i) 0)
   pub classed : (f : ℕ) (x : Function) → f < count → getElem? (w .functions) f ≡ some x → Classed (x .name) (sitesOf w) new (links p)
 

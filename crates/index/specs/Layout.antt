@@ -1,4 +1,4 @@
--- Where the parts of work begin: columns, one after another, of functions (two), sentences (two), kept marks, sites (two); then room.
+-- Where the parts of work begin: columns, one after another, of functions (two), sentences (two), kept marks, sites (three); then room.
 use Prim.Native.Nat.{ℕ, _+_, _*_, _/_, _%_}
 use mathlib.Core.List.{List}
 use lib.ListN.{getD}
@@ -23,9 +23,9 @@ calls p = marks p + (p .sentences + 31) / 32
 abbrev pub links : Plan → ℕ
 links p = calls p + p .sites
 
-abbrev pub room : Plan → ℕ
-room p = links p + p .sites
+-- What the report notes of each site once the rounds are done; while sites are linked, the functions are filed from here on.
+abbrev pub notes : Plan → ℕ
+notes p = links p + p .sites
 
--- While sites are linked, the room holds a link for each function and then the buckets.
-abbrev pub buckets : Plan → ℕ
-buckets p = room p + p .functions
+abbrev pub room : Plan → ℕ
+room p = notes p + p .sites

@@ -4,7 +4,7 @@ use crate::table::place_of;
 ghost use mathlib.Core.Path.{_≡_};
 ghost use Prim.Native.Nat.{_+_, _%_, _<_, _≤_};
 ghost use lib.ListN.{length, getD};
-ghost use Rattle.index.specs.Layout.{lines, witnesses, marks, calls, links, room};
+ghost use Rattle.index.specs.Layout.{lines, witnesses, marks, calls, links, notes, room};
 
 // The sentences' places, and the rounds in which they fell.
 pub fn lines_of(plan: Plan) -> usize
@@ -46,12 +46,20 @@ pub fn links_of(plan: Plan) -> usize
     calls_of(plan) + plan.sites
 }
 
+// The sites' notes.
+pub fn notes_of(plan: Plan) -> usize
+    requires { ⌜ (plan .functions ≤ 32768) × (plan .sentences ≤ 32768) × (plan .sites ≤ 32768) ⌝ }
+    ensures { λ r. ⌜ r ≡ notes plan ⌝ }
+{
+    links_of(plan) + plan.sites
+}
+
 // The room behind the columns.
 pub fn room_of(plan: Plan) -> usize
     requires { ⌜ (plan .functions ≤ 32768) × (plan .sentences ≤ 32768) × (plan .sites ≤ 32768) ⌝ }
     ensures { λ r. ⌜ r ≡ room plan ⌝ }
 {
-    links_of(plan) + plan.sites
+    notes_of(plan) + plan.sites
 }
 
 // Where the pattern of the sentence s stands: behind a mark and a span.

@@ -26,11 +26,14 @@ use Rattle.cleaning.specs.Indexed.{Indexed, fellOf}
 use Rattle.cleaning.specs.Prepared.{ProgramLinked}
 use Rattle.cleaning.specs.Walks.{Witnessed}
 use Rattle.cleaning.specs.RoundDone.{RoundsReady, RoundsMade}
-use Rattle.cleaning.proofs.Indexed.{only-rounds-indexed}
+use Rattle.cleaning.proofs.Indexed.{fell-from, only-rounds-indexed}
 use Rattle.cleaning.proofs.Witnesses.{witnessed-kept}
 use Rattle.output.proofs.MarkPart.{fell-apart}
 use Rattle.cleaner.specs.Delivery.{marksIn}
 use Rattle.cleaner.specs.Done.{Done}
+use Rattle.report.specs.Notes.{NotesWritten}
+use Rattle.report.proofs.SiteNotes.{written-only}
+use Rattle.cleaner.proofs.Delivered.{marks-same}
 
 -- Functions and sentences stand before the marks, sites and their lists behind them.
 module _ {b : List ℕ} {w : Program} {old new : List ℕ} {p : Plan} (o : Apart old new (marks p) (calls p)) (d : Indexed b w old p) where
@@ -75,22 +78,24 @@ root-found w e = e
 pub linked-ready : {b : List ℕ} {w : Program} {m : List ℕ} {p : Plan} {root : ℕ} → ProgramLinked b w m p → root ≡ rootPlace w → RoundsReady b w m p root
 linked-ready l e = record { indexed = l .indexed; fell = l .fell; asked = l .asked; root-is = e }
 
--- The rounds are done when the sentences that are left are marked.
-pub rounds-done : {b : List ℕ} {w : Program} {start old new : List ℕ} {p : Plan} {root n : ℕ} → length b ≤ 32768 → RoundsReady b w start p root → RoundsMade w start old p n → Apart old new (marks p) (calls p)
-    → ((s : ℕ) → isKept (marksIn p new) s ≡ (ltb s (p .sentences) && eqb (fellOf p old s) 0)) → Done b w new p root n
-rounds-done {b} {w} {start} {old} {new} {p} {root} {n} h r m a k =
-    let e = fun-ext (fell-apart p old new a) in
+-- The rounds are done when the sentences that are left are marked and the sites noted.
+pub rounds-done : {b : List ℕ} {w : Program} {start old mid new : List ℕ} {p : Plan} {root n : ℕ} → length b ≤ 32768 → RoundsReady b w start p root → RoundsMade w start old p n → Apart old mid (marks p) (calls p)
+    → ((s : ℕ) → isKept (marksIn p mid) s ≡ (ltb s (p .sentences) && eqb (fellOf p old s) 0)) → NotesWritten w mid new p (p .functions) → Done b w new p root n
+rounds-done {b} {w} {start} {old} {mid} {new} {p} {root} {n} h r m a k o =
+    let e = fell-from p mid new (λ s l. o .before (lines p + s) (omega arith)) ∙ fun-ext (fell-apart p old mid a) in
     let d = only-rounds-indexed (m .only) (r .indexed) in
+    let i = marks-indexed a d in
     record {
       removing = record {
         readable = record {
-          indexed = marks-indexed a d;
+          indexed = only-rounds-indexed (written-only o) i;
           short = h;
-          witnessed = subst (λ (f : ℕ → ℕ). Witnessed (isThere f afterAll) w new p) (sym e) (witnessed-kept (d .sentences) (λ s l. a .before (witnesses p + s) (omega arith)) (m .witnessed));
+          witnessed = subst (λ (f : ℕ → ℕ). Witnessed (isThere f afterAll) w new p) (sym e) (witnessed-kept (d .sentences) (λ s l. o .before (witnesses p + s) (omega arith) ∙ a .before (witnesses p + s) (omega arith)) (m .witnessed));
+          noted = record { list = λ f x q. o .noted f x (omega (arith, element-below (w .functions) f x q, d .functions)) q };
         };
         told = subst (λ (f : ℕ → ℕ). Told w f n) (sym e) (m .told);
-        below = λ s. omega (arith, fell-apart p old new a s, m .below s);
+        below = λ s. omega (arith, ap (λ (f : ℕ → ℕ). f s) e, m .below s);
       };
       root-is = r .root-is;
-      marked = λ s. k s ∙ ap (λ (v : ℕ). ltb s (p .sentences) && eqb v 0) (sym (fell-apart p old new a s));
+      marked = λ s. ap (λ (x : List ℕ). isKept x s) (marks-same p mid new (i .fits) (o .length) (λ j l. o .before j (omega (arith, l)))) ∙ (k s ∙ ap (λ (f : ℕ → ℕ). ltb s (p .sentences) && eqb (f s) 0) (sym e));
     }

@@ -2,13 +2,13 @@
 use Prim.Native.Nat.{ℕ, suc, _+_, _-_, _≤_, _<_}
 use native.Mathlib.Omega.{arith}
 use mathlib.Core.Path.{_≡_, refl, sym, ap, ap₂, subst, _∙_}
-use mathlib.Core.Bool.{Bool, true, false, _&&_, _||_, or-false}
+use mathlib.Core.Bool.{Bool, _&&_, _||_, or-false}
 use mathlib.Core.List.{List, [], _∷_, _++_}
-use lib.Dec.{eqb, ltb, leb}
-use lib.ListN.{length, take, drop, length-drop}
+use lib.Dec.{eqb}
+use lib.ListN.{length, getD, take, drop, length-drop}
 use lib.Seq.{length-take-le, getD-take, getD-drop, ext-getD}
 use borrow.Author.Tests.{lt-ltb, le-ltb, lt-leb}
-use Rattle.program.specs.Syntax.{Function, Program}
+use Rattle.program.specs.Syntax.{Program}
 use Rattle.program.specs.Encode.{ownSentenceCount, encode}
 use Rattle.image.specs.Parts.{Accepted}
 use Rattle.program.proofs.Own.{own-counted}
@@ -25,7 +25,7 @@ use Rattle.told.proofs.Kept.{kept-same}
 use Rattle.told.proofs.History.{told-cleaned}
 use Rattle.told.proofs.ToldReport.{told-report}
 use Rattle.cleaning.proofs.Room.{used-fell}
-use Rattle.output.specs.Marks.{NoneFrom, keptCount}
+use Rattle.output.specs.Marks.{NoneFrom}
 use Rattle.output.proofs.Ones.{count-functions, count-le}
 use Rattle.meaning.specs.Text.{Text}
 use Rattle.text.specs.Fill.{Emitted}
@@ -83,18 +83,21 @@ written-as image output output′ n e f = f ∙ ap (λ (k : ℕ). image ++ drop 
 pub marks-are : (m : List ℕ) (p : Plan) {from end : ℕ} → from ≡ marks p → end ≡ calls p → take (end - from) (drop from m) ≡ marksIn p m
 marks-are m p {from} d e = ap (λ (k : ℕ). take (k - from) (drop from m)) e ∙ ap (λ (k : ℕ). take (calls p - k) (drop k m)) d
 
+pub marks-same : (p : Plan) (old new : List ℕ) → room p ≤ length old → length new ≡ length old → ((k : ℕ) → k < calls p → getD new k 0 ≡ getD old k 0) → marksIn p new ≡ marksIn p old
+marks-same p old new h z q =
+    let k = calls p - marks p in
+    let e : length (take k (drop (marks p) old)) ≡ k = length-take-le k (drop (marks p) old) (omega (arith, h, length-drop (marks p) old)) in
+    let f : length (take k (drop (marks p) new)) ≡ k = length-take-le k (drop (marks p) new) (omega (arith, h, z, length-drop (marks p) new)) in
+    ext-getD 0 (marksIn p new) (marksIn p old) (f ∙ sym e)
+    (λ i l.
+    getD-take k (drop (marks p) new) i 0 (omega (arith, l, f))
+    ∙ (getD-drop (marks p) new i 0 ∙ (q (marks p + i) (omega (arith, l, f)) ∙ sym (getD-take k (drop (marks p) old) i 0 (omega (arith, l, f)) ∙ getD-drop (marks p) old i 0))))
+
 -- ---- verdicts have been asked meanwhile
 
 module _ {p : Plan} {old new : List ℕ} (u : Used p old new) where
   pub marks-used : room p ≤ length old → marksIn p new ≡ marksIn p old
-  marks-used h =
-      let k = calls p - marks p in
-      let e : length (take k (drop (marks p) old)) ≡ k = length-take-le k (drop (marks p) old) (omega (arith, h, length-drop (marks p) old)) in
-      let f : length (take k (drop (marks p) new)) ≡ k = length-take-le k (drop (marks p) new) (omega (arith, h, u .length, length-drop (marks p) new)) in
-      ext-getD 0 (marksIn p new) (marksIn p old) (f ∙ sym e)
-      (λ i l.
-      getD-take k (drop (marks p) new) i 0 (omega (arith, l, f))
-      ∙ (getD-drop (marks p) new i 0 ∙ (u .columns (marks p + i) (omega (arith, l, f)) ∙ sym (getD-take k (drop (marks p) old) i 0 (omega (arith, l, f)) ∙ getD-drop (marks p) old i 0))))
+  marks-used h = marks-same p old new h (u .length) (λ k l. u .columns k (omega (arith, l)))
 
   -- A text is told by the rounds in work as by those before.
   pub emitted-used : (w : Program) (n : ℕ) {lent left : List ℕ} {at : ℕ} → Emitted lent 0 (formatCleanReport (toldReport w (fellOf p new) n)) at left → Emitted lent 0 (formatCleanReport (toldReport w (fellOf p old) n)) at left

@@ -4,6 +4,7 @@ use cleaning::root::root_place;
 use cleaning::rounds::clean_rounds;
 use index::Plan;
 use output::left::mark_left;
+use report::notes::note_repeats;
 ghost use Prim.Native.Nat.{_<_, _≤_};
 ghost use lib.ListN.{length};
 ghost use mathlib.Core.Path.{_≡_};
@@ -17,7 +18,7 @@ pub struct Rounds {
     pub rounds: usize,
 }
 
-// Links the sites, goes through the rounds, and marks the sentences that are left.
+// Links the sites, goes through the rounds, marks the sentences that are left, and notes the sites for the report.
 pub fn clean_listed(b: &[u8], work: &mut [u32], plan: Plan) -> Rounds
     requires { ⌜ SomeListing (now b) (now work) plan × (length (now b) ≤ 32768) ⌝ }
     ensures done { λ r. ⌜ ((w : Program) → ProgramListed (now (b .entry)) w (now (work .entry)) plan → Done (now (b .entry)) w (now (work .exit)) plan (r .root) (r .rounds)) ⌝ }
@@ -28,5 +29,6 @@ pub fn clean_listed(b: &[u8], work: &mut [u32], plan: Plan) -> Rounds
     let root = root_place(b, work, plan.functions);
     let rounds = clean_rounds(b, work, plan, root);
     mark_left(work, plan);
+    note_repeats(work, plan);
     Rounds { root, rounds }
 }

@@ -1,15 +1,12 @@
 -- Which sites lead: the first of each class that is there; and the restrictions that they give.
 use Prim.Native.Nat.{_+_, _-_, _<_, suc, zero, ℕ, _≤_}
 use native.Mathlib.Omega.{arith}
-use mathlib.Core.Bool.{_&&_, Bool, and-eq-true-iff, cond, false, not, or-true, true, _||_}
+use mathlib.Core.Bool.{_&&_, Bool, cond, false, not, or-true, true, _||_}
 use mathlib.Core.List.{_++_, List, [], flatMap, map, map-map, _∷_}
 use mathlib.Core.Option.{some}
 use mathlib.Core.Path.{_≡_, ap, ap₂, refl, subst, sym, _∙_}
-use borrow.Author.Tests.{eq-eqb, eqb-true}
-use lib.Dec.{eqb}
 use lib.ListN.{drop, getD, getElem?, length, take, drop-of-length-le}
-use Rattle.cleaning.proofs.Meeting.{here-element, here-listed, number-is, sentence-below, site-below}
-use Rattle.cleaning.proofs.Walking.{Going, going-next}
+use Rattle.cleaning.proofs.Meeting.{here-element, here-listed, number-is}
 use Rattle.told.specs.Asked.{restricts}
 use Rattle.cleaning.specs.Indexed.{Indexed}
 use Rattle.told.specs.Numbered.{sitesOf, Held}
@@ -19,14 +16,15 @@ use Rattle.cleaning.specs.Walks.{OnList}
 use Rattle.patterns.proofs.Configuration.{sameConfiguration-true}
 use Rattle.patterns.specs.Configuration.{sameConfiguration}
 use Rattle.program.specs.Syntax.{Function, Name, Program, Terms}
-use Rattle.index.proofs.Alike.{listed-plain, repeat-listed, repeat-self}
-use Rattle.index.proofs.First.{Element, element-at, element-below, element-same, first-unique, first-before}
+use Rattle.index.proofs.Alike.{listed-plain}
+use Rattle.index.proofs.First.{element-at, element-same, first-unique}
 use Rattle.told.specs.Calls.{isCallOf, isListed, isPlain}
 use Rattle.index.specs.First.{First}
 use Rattle.index.specs.Layout.{calls, links}
 use Rattle.index.specs.Links.{entryClass, entryNext, isRepeat}
 use Rattle.index.specs.declared.Plan.{Plan}
 use Rattle.report.specs.Leading.{angledAfter, angledIf, isLeading, leadingFrom}
+use Rattle.report.specs.Notes.{blocks}
 use Rattle.meaning.proofs.Earlier.{newAfter, restrictions-new}
 use Rattle.meaning.proofs.Repeats.{repeats-exactly}
 use Rattle.restrictions.specs.Entries.{entrySentence}
@@ -56,7 +54,7 @@ drop-element {A} [] i y e = let z : _≡_ {A = ℕ} 0 1 = cc in absurd (omega ar
 drop-element {A} (x ∷ l) zero y e = ap (λ (z : A). z ∷ l) (element-same (x ∷ l) 0 x y refl e)
 drop-element {A} (x ∷ l) (suc i) y e = drop-element l i y e
 
-any-taken : {A : Type 0} (test : A → Bool) (l : List A) (i : ℕ) (y : A) (rest : List A) → drop i l ≡ y ∷ rest → (any test (take (suc i) l) ≡ (test y || any test (take i l))) × (drop (suc i) l ≡ rest)
+pub any-taken : {A : Type 0} (test : A → Bool) (l : List A) (i : ℕ) (y : A) (rest : List A) → drop i l ≡ y ∷ rest → (any test (take (suc i) l) ≡ (test y || any test (take i l))) × (drop (suc i) l ≡ rest)
 unfolding any
 any-taken test [] zero y rest e = let z : _≡_ {A = ℕ} 0 1 = cc in absurd (omega arith)
 any-taken test [] (suc i) y rest e = let z : _≡_ {A = ℕ} 0 1 = cc in absurd (omega arith)
@@ -116,10 +114,6 @@ plain-arguments keep f sites =
     ∙ select-select (λ x. keep (x .sentence)) (λ x. sameName (x .site .callee) f && restrictionIsCharacterisable (x .site .argument)) sites)
 
 -- ---- the restrictions are the arguments of the sites that lead
-
--- A site that is there, and whose argument is the same as that of y.
-abbrev pub blocks : (ℕ → Bool) → Name → Held → Held → Bool
-blocks keep f y z = restricts keep f z && sameConfiguration (z .site .argument) (y .site .argument)
 
 module _ (keep : ℕ → Bool) (f : Name) (sites : List Held) where
   abbrev argument-of : Held → Terms
@@ -211,7 +205,7 @@ module _ (keep : ℕ → Bool) (f : Name) (sites : List Held) where
 -- ---- classes: of the sites of a list, those with the same first that they repeat are the same
 
 module _ (f : Name) (z y : Held) (l : isListed true f z ≡ true) where
-  repeat-alike : sameConfiguration (z .site .argument) (y .site .argument) ≡ true → (u : Held) → isRepeat f z u ≡ isRepeat f y u
+  pub repeat-alike : sameConfiguration (z .site .argument) (y .site .argument) ≡ true → (u : Held) → isRepeat f z u ≡ isRepeat f y u
   unfolding isRepeat isPlain
   repeat-alike e u = by (isListed true f u) refl
     where
@@ -224,25 +218,13 @@ module _ (f : Name) (z y : Held) (l : isListed true f z ≡ true) where
       by false h = refl
 
   module _ (sites : List Held) (c d : ℕ) (a : First (isRepeat f z) 0 sites c) (b : First (isRepeat f y) 0 sites d) where
-    class-one : sameConfiguration (z .site .argument) (y .site .argument) ≡ true → c ≡ d
+    pub class-one : sameConfiguration (z .site .argument) (y .site .argument) ≡ true → c ≡ d
     class-one e = first-unique (record { later = a .later; within = a .within; none = λ k u p q g. sym (repeat-alike e u) ∙ a .none k u p q g; found = λ u g. sym (repeat-alike e u) ∙ a .found u g }) b
-
-    class-back : d < length sites → c ≡ d → sameConfiguration (z .site .argument) (y .site .argument) ≡ true
-    unfolding isRepeat isPlain
-    class-back h e =
-        let u = element-at sites d h in
-        let q = and-eq-true-iff (isListed true f (u .element)) (sameConfiguration (u .element .site .argument) (y .site .argument)) .0 (b .found (u .element) (u .is)) in
-        let p = and-eq-true-iff (isListed true f (u .element)) (sameConfiguration (u .element .site .argument) (z .site .argument)) .0 (a .found (u .element) (ap (getElem? sites) e ∙ u .is)) in
-        repeats-exactly (z .site .argument) (y .site .argument) (listed-plain f z l) .1
-        (sym (sameConfiguration-true (u .element .site .argument) (z .site .argument) (p .1)) ∙ sameConfiguration-true (u .element .site .argument) (y .site .argument) (q .1))
-
-    class-test : d < length sites → eqb c d ≡ sameConfiguration (z .site .argument) (y .site .argument)
-    class-test h = same-test (eqb c d) (sameConfiguration (z .site .argument) (y .site .argument)) (λ e. class-back h (eqb-true c d e)) (λ e. eq-eqb c d (class-one e))
 
 -- ---- the walk along a class
 
 module _ (keep : ℕ → Bool) (f : Name) (y : Held) where
-  blocks-not : (u : Held) → isRepeat f y u ≡ false → blocks keep f y u ≡ false
+  pub blocks-not : (u : Held) → isRepeat f y u ≡ false → blocks keep f y u ≡ false
   unfolding isRepeat restricts
   blocks-not u e = by (keep (u .sentence)) (isListed true f u) (sameConfiguration (u .site .argument) (y .site .argument)) e
     where
@@ -250,86 +232,27 @@ module _ (keep : ℕ → Bool) (f : Name) (y : Held) where
       by true l s h = h
       by false l s h = refl
 
-  blocks-less : (u : Held) → isListed true f u ≡ false → blocks keep f y u ≡ false
-  blocks-less u e = blocks-not u (repeat-listed f y u e)
-
-  blocks-listed : (u : Held) (s : Bool) → isListed true f u ≡ true → s ≡ sameConfiguration (u .site .argument) (y .site .argument) → (s && keep (u .sentence)) ≡ blocks keep f y u
-  unfolding restricts
-  blocks-listed u s l e = by s (keep (u .sentence)) ∙ ap₂ (λ (t v : Bool). (keep (u .sentence) && t) && v) (sym l) e
-    where
-      by : (s k : Bool) → (s && k) ≡ ((k && true) && s)
-      by true true = refl
-      by true false = refl
-      by false true = refl
-      by false false = refl
-
 module _ {b : List ℕ} {w : Program} {m : List ℕ} {p : Plan} (d : Indexed b w m p) (f : ℕ) (x : Function) (e : getElem? (w .functions) f ≡ some x) (keep : ℕ → Bool) (i : ℕ) (y : Held) (g : getElem? (sitesOf w) i ≡ some y) (l : isListed true (x .name) y ≡ true) where
-  -- Nothing before j blocks the site i; j is a site of the list, not beyond i.
-  abbrev pub LeadWalk : ℕ → Type 0
-  LeadWalk j = Going (isListed true (x .name)) (blocks keep (x .name) y) 0 (sitesOf w) j × (j ≤ i)
-
   pub leads-gone : keep (entrySentence (getD m (calls p + i) 0)) ≡ false → false ≡ isLeading keep (x .name) (sitesOf w) i y
   unfolding isLeading restricts
   leads-gone k =
       sym (ap (λ (t : Bool). (t && isListed true (x .name) y) && not (any (blocks keep (x .name) y) (take i (sitesOf w)))) (sym (ap keep (number-is d f x e i y g)) ∙ k))
 
-  pub leads-start : (c : ℕ) → c ≡ entryClass (getD m (links p + i) 0) → LeadWalk c
-  unfolding isRepeat
-  leads-start c z =
-      let h = subst (λ (n : ℕ). First (isRepeat (x .name) y) 0 (sitesOf w) n) (sym z) (d .classed f x e .class i y g l) in (
-        record {
-          later = h .later;
-          within = h .within;
-          none = λ k u a q s. blocks-not keep (x .name) y u (h .none k u a q s);
-          found = λ u q. and-eq-true-iff (isListed true (x .name) u) (sameConfiguration (u .site .argument) (y .site .argument)) .0 (h .found u q) .0;
-        },
-        first-before h (omega arith) g (repeat-self (x .name) y l),
-      )
+  there-listed : keep (entrySentence (getD m (calls p + i) 0)) ≡ true → restricts keep (x .name) y ≡ true
+  unfolding restricts
+  there-listed k = ap₂ (λ (t u : Bool). t && u) (sym (ap keep (number-is d f x e i y g)) ∙ k) l
 
-  module _ (j : ℕ) (h : LeadWalk j) where
-    pub leads-end : i ≤ j → keep (entrySentence (getD m (calls p + i) 0)) ≡ true → true ≡ isLeading keep (x .name) (sitesOf w) i y
-    unfolding isLeading restricts
-    leads-end q k =
-        sym (ap₂ (λ (t u : Bool). t && not u) (ap₂ (λ (t u : Bool). t && u) (sym (ap keep (number-is d f x e i y g)) ∙ k) l)
-        (none-taken (blocks keep (x .name) y) (sitesOf w) i (λ n u a s. h .0 .none n u (omega arith) (omega (arith, a, q)) s)))
+  -- It is the first of its class.
+  pub leads-first : (c : ℕ) → c ≡ entryClass (getD m (links p + i) 0) → i ≤ c → keep (entrySentence (getD m (calls p + i) 0)) ≡ true → true ≡ isLeading keep (x .name) (sitesOf w) i y
+  unfolding isLeading
+  leads-first c z q k =
+      let h = subst (λ (n : ℕ). First (isRepeat (x .name) y) 0 (sitesOf w) n) (sym z) (d .classed f x e .class i y g l) in
+      sym (ap₂ (λ (t u : Bool). t && not u) (there-listed k) (none-taken (blocks keep (x .name) y) (sitesOf w) i (λ n u a s. blocks-not keep (x .name) y u (h .none n u (omega arith) (omega (arith, a, q)) s))))
 
-    module _ (q : j < i) where
-      here : Element (sitesOf w) j
-      here = element-at (sitesOf w) j (omega (arith, element-below (sitesOf w) i y g))
-
-      here-is : isListed true (x .name) (here .element) ≡ true
-      here-is = h .0 .found (here .element) (here .is)
-
-      class-below : entryClass (getD m (links p + i) 0) < length (sitesOf w)
-      class-below = omega (arith, element-below (sitesOf w) i y g, leads-start (entryClass (getD m (links p + i) 0)) refl .1)
-
-      pub leads-below : (j < p .sites) × (entrySentence (getD m (calls p + j) 0) < p .sentences)
-      leads-below =
-          let k : j < p .sites = omega (arith, q, site-below d f x e i y g) in
-          (k, sentence-below d f x e j k)
-
-      module _ (c : ℕ) (z : c ≡ entryClass (getD m (links p + i) 0)) (r : Bool) (a : r ≡ (eqb (entryClass (getD m (links p + j) 0)) c && keep (entrySentence (getD m (calls p + j) 0)))) where
-        blocks-is : r ≡ blocks keep (x .name) y (here .element)
-        blocks-is =
-            a
-            ∙ ap₂ (λ (n s : ℕ). eqb (entryClass (getD m (links p + j) 0)) n && keep s) z (number-is d f x e j (here .element) (here .is))
-            ∙ blocks-listed keep (x .name) y (here .element) (eqb (entryClass (getD m (links p + j) 0)) (entryClass (getD m (links p + i) 0))) here-is
-            (class-test (x .name) (here .element) y here-is (sitesOf w) (entryClass (getD m (links p + j) 0)) (entryClass (getD m (links p + i) 0))
-            (d .classed f x e .class j (here .element) (here .is) here-is) (d .classed f x e .class i y g l) class-below)
-
-        pub leads-blocked : r ≡ true → false ≡ isLeading keep (x .name) (sitesOf w) i y
-        unfolding isLeading
-        leads-blocked t =
-            sym (ap (λ (u : Bool). restricts keep (x .name) y && not u) (some-taken (blocks keep (x .name) y) (sitesOf w) i j (here .element) q (here .is) (sym blocks-is ∙ t)) ∙ and-false (restricts keep (x .name) y))
-          where
-            and-false : (t : Bool) → (t && false) ≡ false
-            and-false true = refl
-            and-false false = refl
-
-        pub leads-next : r ≡ false → (n : ℕ) → n ≡ entryNext (getD m (links p + j) 0) → LeadWalk n × (j < n)
-        leads-next t n v =
-            let k = subst (λ (o : ℕ). First (isListed true (x .name)) (suc j) (sitesOf w) o) (sym v) (d .chained .chain true f x e .next j (here .element) (omega arith) (here .is) here-is) in
-            ((going-next (h .0) (here .element) (here .is) (blocks-less keep (x .name) y) (sym blocks-is ∙ t) k, first-before k q g l), omega (arith, k .later))
+  -- Whether an earlier one of its class is there.
+  pub leads-unless : keep (entrySentence (getD m (calls p + i) 0)) ≡ true → (r : Bool) → r ≡ any (blocks keep (x .name) y) (take i (sitesOf w)) → not r ≡ isLeading keep (x .name) (sitesOf w) i y
+  unfolding isLeading
+  leads-unless k r q = ap₂ (λ (t u : Bool). t && not u) (sym (there-listed k)) q
 
 -- The next site of the list after j.
 pub next-listed : {b : List ℕ} {w : Program} {m : List ℕ} {p : Plan} (d : Indexed b w m p) (f : ℕ) (x : Function) (e : getElem? (w .functions) f ≡ some x) (j : ℕ) (o : OnList (x .name) (sitesOf w) j) (h : j < p .sites) (n : ℕ)

@@ -1,4 +1,5 @@
 pub mod Leaders
+pub mod SiteNotes
 pub mod Namesakes
 pub mod Places
 pub mod Telling

@@ -4,11 +4,14 @@ use native.Mathlib.Omega.{arith}
 use mathlib.Core.Path.{_≡_, sym, ap, subst, _∙_}
 use mathlib.Core.Bool.{Bool}
 use mathlib.Core.List.{List}
-use lib.ListN.{getD}
+use lib.ListN.{length, getD, take}
 use Rattle.program.specs.Syntax.{Program}
 use Rattle.index.specs.declared.Plan.{Plan}
-use Rattle.index.specs.Layout.{witnesses, links}
+use Rattle.index.specs.Layout.{witnesses, links, notes}
 use Rattle.index.specs.Links.{entryNext}
+use Rattle.index.proofs.First.{element-below}
+use Rattle.meaning.specs.Lists.{any}
+use Rattle.told.specs.Numbered.{sitesOf}
 use Rattle.told.specs.History.{isThere, afterAll, Told}
 use Rattle.cleaning.specs.Indexed.{fellOf}
 use Rattle.cleaning.specs.Room.{Used}
@@ -17,6 +20,7 @@ use Rattle.told.specs.ToldReport.{toldReport}
 use Rattle.cleaning.proofs.Room.{used-fell, used-indexed}
 use Rattle.cleaning.proofs.Witnesses.{witnessed-kept}
 use Rattle.report.specs.declared.format.Figures.{Figures}
+use Rattle.report.specs.Notes.{standsIn, blocks, Noted}
 use Rattle.report.specs.Emitting.{Readable, SomeReadable}
 use Rattle.report.specs.Leading.{SomeSite}
 use Rattle.report.specs.Removed.{Removing}
@@ -34,11 +38,23 @@ module _ {p : Plan} {old new : List ℕ} (u : Used p old new) where
   pub used-next : (from i : ℕ) → from ≡ links p → i < p .sites → (v : ℕ) → v ≡ entryNext (getD new (from + i) 0) → v ≡ entryNext (getD old (links p + i) 0)
   used-next from i e h v z = z ∙ (ap (λ (k : ℕ). entryNext (getD new (k + i) 0)) e ∙ ap entryNext (u .columns (links p + i) (omega arith)))
 
+  used-noted : {w : Program} → length (sitesOf w) ≡ p .sites → Noted w old p → Noted w new p
+  used-noted {w} c n = record {
+    list = λ f x e. record {
+      earlier = λ i y a v r.
+          let l : i < p .sites = omega (arith, c, element-below (sitesOf w) i y (a .is)) in
+          let q = u .columns (links p + i) (omega arith) in
+          ap (λ (k : ℕ). standsIn k r) (u .columns (notes p + i) (omega arith))
+          ∙ (n .list f x e .earlier i y a (omega (arith, v, q)) r ∙ ap (λ (t : ℕ → ℕ). any (blocks (isThere t r) (x .name) y) (take i (sitesOf w))) (sym (used-fell u)));
+    };
+  }
+
   pub used-readable : {b : List ℕ} {w : Program} → Readable b w old p → Readable b w new p
   used-readable {b} {w} d = record {
     indexed = used-indexed u (d .indexed);
     short = d .short;
     witnessed = subst (λ (k : ℕ → Bool). Witnessed k w new p) (sym (used-keep afterAll)) (witnessed-kept (d .indexed .sentences) (λ s l. u .columns (witnesses p + s) (omega arith)) (d .witnessed));
+    noted = used-noted (d .indexed .sites) (d .noted);
   }
 
   pub used-some : {b : List ℕ} → SomeReadable b old p → SomeReadable b new p

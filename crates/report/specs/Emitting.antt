@@ -11,12 +11,14 @@ use Rattle.told.specs.History.{isThere, afterAll}
 use Rattle.cleaning.specs.Indexed.{Indexed, fellOf}
 use Rattle.cleaning.specs.Walks.{Owns, Witnessed}
 use Rattle.text.specs.Fill.{Emitted}
+use Rattle.report.specs.Notes.{Noted}
 
--- The entries of w, whose body b is that of an image, with the witnesses that the rounds have left.
+-- The entries of w, whose body b is that of an image, with the witnesses that the rounds have left and the notes of sites.
 pub record Readable (b : List ℕ) (w : Program) (m : List ℕ) (p : Plan) : Type 0 where
   pub indexed : Indexed b w m p
   pub short : length b ≤ 32768
   pub witnessed : Witnessed (isThere (fellOf p m) afterAll) w m p
+  pub noted : Noted w m p
 
 pub record SomeReadable (b m : List ℕ) (p : Plan) : Type 0 where
   pub program : Program

@@ -1,3 +1,4 @@
+pub mod Notes
 pub mod Emitting
 pub mod Leading
 pub mod Listing

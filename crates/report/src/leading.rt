@@ -4,62 +4,46 @@ use index::Plan;
 use index::classes::site_argument;
 use index::columns::calls_of;
 use index::columns::links_of;
+use index::columns::notes_of;
 use index::table::class_of;
 use index::table::head_site;
 use index::table::next_site;
 use text::emit::put_byte;
 use text::terms::format_terms;
 ghost use mathlib.Core.Path.{_≡_};
-ghost use mathlib.Core.Bool.{true, _&&_};
+ghost use mathlib.Core.Bool.{true};
 ghost use mathlib.Core.List.{List, flatMap};
 ghost use mathlib.Core.Option.{some};
 ghost use Prim.Native.Nat.{ℕ, _+_, _*_, _<_, _≤_};
-ghost use lib.Dec.{eqb};
-ghost use lib.ListN.{length, getD, getElem?};
+ghost use lib.ListN.{length, getElem?};
 ghost use Rattle.program.specs.Syntax.{Function, Program};
 ghost use Rattle.told.specs.Numbered.{Held, sitesOf};
-ghost use Rattle.restrictions.specs.Entries.{entrySentence};
-ghost use Rattle.index.specs.Layout.{calls, links, room};
 ghost use Rattle.told.specs.Calls.{isListed};
-ghost use Rattle.index.specs.Links.{entryClass};
 ghost use Rattle.told.specs.History.{isThere};
-ghost use Rattle.cleaning.specs.Indexed.{Indexed, fellOf};
+ghost use Rattle.cleaning.specs.Indexed.{fellOf};
 ghost use Rattle.told.specs.ToldReport.{restrictionsAt};
 ghost use Rattle.text.specs.Fill.{Emitted, limit};
 ghost use Rattle.report.specs.Emitting.{Readable, SomeReadable};
 ghost use Rattle.report.specs.Leading.{isLeading, SomeListed, SomeSite, angledAfter, angledIf};
 ghost use Rattle.report.specs.Uncovered.{ArgumentAt};
 
-// Whether the site j of the list is there and of the class c.
-fn is_of_class(work: &[u32], plan: Plan, j: usize, c: usize, round: usize) -> bool
-    requires { ⌜ (j < plan .sites) × (room plan ≤ length (now work)) × (length (now work) ≤ 8192) × (entrySentence (getD (now work) (calls plan + j) 0) < plan .sentences) ⌝ }
-    ensures { λ r. ⌜ r ≡ (eqb (entryClass (getD (now (work .entry)) (links plan + j) 0)) c && isThere (fellOf plan (now (work .entry))) round (entrySentence (getD (now (work .entry)) (calls plan + j) 0))) ⌝ }
-{
-    let at = links_of(plan);
-    if class_of(work, at, j) != c {
-        return false;
-    }
-    site_there(work, plan, j, round)
-}
-
-// Whether the site i is the first of its class that is there when the round begins.
+// Whether the site i is the first of its class that is there when the round begins: its note says as long as an earlier one is.
 pub fn leads(work: &[u32], plan: Plan, i: usize, round: usize) -> bool
     requires { ⌜ SomeListed (now work) plan i ⌝ }
-    ensures { λ r. ⌜ ((b : List ℕ) (w : Program) (f : ℕ) (x : Function) (y : Held) → Indexed b w (now (work .entry)) plan → getElem? (w .functions) f ≡ some x → getElem? (sitesOf w) i ≡ some y → isListed true (x .name) y ≡ true → r ≡ isLeading (isThere (fellOf plan (now (work .entry))) round) (x .name) (sitesOf w) i y) ⌝ }
+    ensures { λ r. ⌜ ((b : List ℕ) (w : Program) (f : ℕ) (x : Function) (y : Held) → Readable b w (now (work .entry)) plan → getElem? (w .functions) f ≡ some x → getElem? (sitesOf w) i ≡ some y → isListed true (x .name) y ≡ true → r ≡ isLeading (isThere (fellOf plan (now (work .entry))) round) (x .name) (sitesOf w) i y) ⌝ }
 {
     if !site_there(work, plan, i, round) {
         return false;
     }
-    let links = links_of(plan);
-    let c = class_of(work, links, i);
-    let mut j = c;
-    while j < i {
-        if is_of_class(work, plan, j, c, round) {
-            return false;
-        }
-        j = next_site(work, links, j);
+    if i <= class_of(work, links_of(plan), i) {
+        return true;
     }
-    true
+    let k = notes_of(plan) + i;
+    let last = work[k] as usize;
+    if last == 0 {
+        return false;
+    }
+    last < round
 }
 
 // Where the argument of the plain site i begins in the body b.

@@ -3,6 +3,7 @@ pub mod alike;
 pub mod format;
 pub mod leading;
 pub mod names;
+pub mod notes;
 pub mod removed;
 pub mod repeated;
 pub mod sentence;

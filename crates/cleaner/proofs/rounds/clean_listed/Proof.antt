@@ -1,6 +1,12 @@
 -- `cleaner::rounds::clean_listed` meets its contract. Assumes nothing.
-use mathlib.Core.Path.{_∙_}
-use Rattle.cleaner.proofs.AfterRounds.{linked-tabled, root-found, linked-ready, rounds-done}
+use mathlib.Core.Path.{_≡_, _∙_}
+use lib.ListN.{length}
+use Rattle.program.specs.Syntax.{Program}
+use Rattle.cleaning.specs.Indexed.{Indexed}
+use Rattle.cleaning.specs.Prepared.{ProgramListed, ProgramLinked}
+use Rattle.cleaning.specs.RoundDone.{RoundsReady}
+use Rattle.cleaning.proofs.Indexed.{only-rounds-indexed}
+use Rattle.cleaner.proofs.AfterRounds.{linked-tabled, root-found, linked-ready, marks-indexed, rounds-done}
 use borrow.Author.Needs.{needs}
 use Rattle.cleaner.proofs.rounds.clean_listed.Statement.{statement}
 use Rattle.cleaner.proofs.rounds.clean_listed.Tie as tie
@@ -22,21 +28,44 @@ clean-rounds-requires c κs =
 mark-left-requires : tie.Need-mark-left-requires
 mark-left-requires c κs = search needs
 
+-- The rounds, where the sentences that are left are marked.
+abbrev start : (q : tie.After-slice-known4) → tie.Start
+start q = q .before .before .before .before .before .before .before .before .before .before .before .before .before .before .before .before
+
+abbrev linked : (q : tie.After-slice-known4) (w : Program) → let a = start q .args in ProgramListed (a .b .now) w (a .work .now) (a .plan) → ProgramLinked (a .b .now) w (q .before .before .before .before .before .before .before .before .before .before .before .before .link-program .last .1 .0) (a .plan) × (length (q .before .before .before .before .before .before .before .before .before .before .before .before .link-program .last .1 .0) ≡ length (a .work .now))
+linked q w h = q .before .before .before .before .before .before .before .before .before .before .before .before .link-program .ensures w h
+
+abbrev ready : (q : tie.After-slice-known4) (w : Program) → let a = start q .args in ProgramListed (a .b .now) w (a .work .now) (a .plan) → RoundsReady (a .b .now) w (q .before .before .before .before .before .before .before .before .before .before .before .before .link-program .last .1 .0) (a .plan) (q .before .before .before .before .before .before .before .before .root-place .result)
+ready q w h =
+    let l = linked q w h .0 in
+    linked-ready l (root-found w (q .before .before .before .before .before .before .before .before .root-place .ensures (w .functions) (linked-tabled l)))
+
+-- The entries then.
+abbrev left : (q : tie.After-slice-known4) (w : Program) → let a = start q .args in ProgramListed (a .b .now) w (a .work .now) (a .plan) → Indexed (a .b .now) w (q .before .before .mark-left .last .0) (a .plan)
+left q w h =
+    let r = ready q w h in
+    marks-indexed (q .before .before .mark-left .ensures .1) (only-rounds-indexed (q .before .before .before .before .before .before .clean-rounds .ensures w r .only) (r .indexed))
+
+note-repeats-requires : tie.Need-note-repeats-requires
+note-repeats-requires c κs =
+    let q = c .before in
+    let p = start q .pre .0 in
+    record { body = start q .args .b .now; program = p .program; indexed = left q (p .program) (p .listed) }
+
 same-length : tie.Need-same-length
 same-length c = search needs
 
 returns : tie.Need-returns
 returns c =
-    let p = (c .before .before .before .before .before .before .before .before .before .before .before .before .before .before .before .before) .pre .0 in
-    let z = (c .before .before .before .before .before .before .before .before .before .before .before .before) .link-program .ensures (p .program) (p .listed) in
-    let r = linked-ready (z .0) (root-found (p .program) ((c .before .before .before .before .before .before .before .before) .root-place .ensures (p .program .functions) (linked-tabled (z .0)))) in
-    let m = (c .before .before .before .before .before .before) .clean-rounds .ensures (p .program) r in (
-      λ w h.
-          let l = (c .before .before .before .before .before .before .before .before .before .before .before .before) .link-program .ensures w h .0 in
-          let s = linked-ready l (root-found w ((c .before .before .before .before .before .before .before .before) .root-place .ensures (w .functions) (linked-tabled l))) in
-          rounds-done ((c .before .before .before .before .before .before .before .before .before .before .before .before .before .before .before .before) .pre .1) s ((c .before .before .before .before .before .before) .clean-rounds .ensures w s) ((c .before .before) .mark-left .ensures .1) ((c .before .before) .mark-left .ensures .0),
-      (m .few, (c .before .before) .mark-left .ensures .1 .length ∙ (m .only .length ∙ z .1)),
+    let q = c .before .before .before .before in
+    let p = start q .pre .0 in
+    let k = q .before .before .mark-left .ensures in
+    let rounds = q .before .before .before .before .before .before .clean-rounds .ensures in
+    let m = rounds (p .program) (ready q (p .program) (p .listed)) in
+    let n = (c .before .before) .note-repeats .ensures (start q .args .b .now) in (
+      λ w h. rounds-done (start q .pre .1) (ready q w h) (rounds w (ready q w h)) (k .1) (k .0) (n w (left q w h)),
+      (m .few, n (p .program) (left q (p .program) (p .listed)) .length ∙ (k .1 .length ∙ (m .only .length ∙ linked q (p .program) (p .listed) .1))),
     )
 
 pub clean-listed-spec : {M : Type 1} → statement M
-clean-listed-spec = tie.close (tie.spec link-program-requires root-place-requires clean-rounds-requires mark-left-requires same-length returns)
+clean-listed-spec = tie.close (tie.spec link-program-requires root-place-requires clean-rounds-requires mark-left-requires note-repeats-requires same-length returns)

@@ -27,7 +27,7 @@ leads-requires c κs =
 
 led : (c : tie.After-leads) (w : Program) (f : ℕ) (x : Function) (y : Held) → let a = c .before .before .before .before .args in Readable (a .b .now) w (a .work .now) (a .plan) → getElem? (w .functions) f ≡ some x → getElem? (sitesOf w) (a .i) ≡ some y → isListed true (x .name) y ≡ true
     → c .leads .result ≡ isLeading (isThere (fellOf (a .plan) (a .work .now)) (a .round)) (x .name) (sitesOf w) (a .i) y
-led c w f x y d e g l = c .leads .ensures (c .before .before .before .before .args .b .now) w f x y (d .indexed) e g l
+led c w f x y d e g l = c .leads .ensures (c .before .before .before .before .args .b .now) w f x y d e g l
 
 returns : tie.Need-returns
 unfolding angledIf

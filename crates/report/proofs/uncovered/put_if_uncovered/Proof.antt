@@ -28,7 +28,7 @@ here : (c : tie.Else1) (w : Program) (x : Function) (y : Held) → let s = c .be
 here c w x y d e g l =
     let s = c .before .before .before .before .before .before in
     let a = s .args in
-    leading-there (keep s) (x .name) (sitesOf w) (a .i) y (sym (c .before .leads .ensures (a .b .now) w (a .f) x y (d .indexed) e g l) ∙ not-is (c .before .leads .result) false (c .if1 .left))
+    leading-there (keep s) (x .name) (sitesOf w) (a .i) y (sym (c .before .leads .ensures (a .b .now) w (a .f) x y d e g l) ∙ not-is (c .before .leads .result) false (c .if1 .left))
 
 leads-requires : tie.Need-leads-requires
 leads-requires c κs =
@@ -45,7 +45,7 @@ returns c =
     let a = s .args in (
       λ w x y d e g l.
           uncovered-same
-          (not-leading (keep s) (sitesOf w) x (sentencesBefore (a .f) (w .functions)) (a .i) y (sym (c .before .leads .ensures (a .b .now) w (a .f) x y (d .indexed) e g l) ∙ not-is (c .before .leads .result) true (c .if1 .taken)))
+          (not-leading (keep s) (sitesOf w) x (sentencesBefore (a .f) (w .functions)) (a .i) y (sym (c .before .leads .ensures (a .b .now) w (a .f) x y d e g l) ∙ not-is (c .before .leads .result) true (c .if1 .taken)))
           (uncovered-nothing w (a .out .now) (a .listed .at) (a .listed .count) (a .listed .function) (a .listed .item)),
       ((omega arith, s .pre .5, s .pre .2), used-same),
     )
@@ -86,7 +86,7 @@ returns-3 c =
       λ w x y d e g l.
           uncovered-same
           (is-candidate (keep s) (sitesOf w) x (sentencesBefore (a .f) (w .functions)) (a .i) y
-          (sym (c .before .before .before .before .before .before .before .before .before .before .before .leads .ensures (a .b .now) w (a .f) x y (d .indexed) e g l) ∙ not-is (c .before .before .before .before .before .before .before .before .before .before .before .leads .result) false (c .before .before .before .before .before .before .before .before .before .before .if1 .left))
+          (sym (c .before .before .before .before .before .before .before .before .before .before .before .leads .ensures (a .b .now) w (a .f) x y d e g l) ∙ not-is (c .before .before .before .before .before .before .before .before .before .before .before .leads .result) false (c .before .before .before .before .before .before .before .before .before .before .if1 .left))
           (c .before .before .before .before .before .before .before .before .is-covered .ensures .0 w x y d e g l (here (c .before .before .before .before .before .before .before .before .before .before) w x y d e g l) ∙ ap not (c .before .before .before .before .before .if2 .left)))
           (c .before .before .put-candidate .ensures .0 w x y (used-readable u d) e g l),
       (c .before .before .put-candidate .ensures .1, u),

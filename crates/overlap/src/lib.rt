@@ -18,10 +18,13 @@ ghost use Rattle.overlap.specs.Steps.{isOverlap, isDisjoint, remembered,
 // The fuel of each pair of sequences.
 const OVERLAP_FUEL: u32 = 4096;
 
-// What the cycle may use before the rows take over: so many entries in all, so many brackets and splits inside one another.
+// What the cycle may use before the rows take over: so many ends of splits and bracket pairs in all, so many of them inside one
+// another. Of patterns with more terms than this it may try more.
 const ENTRIES: u32 = 64;
 
 const DEPTH: u32 = 12;
+
+const SHORT: usize = 128;
 
 pub fn is_overlap(v: Verdict) -> bool
     ensures { λ r. ⌜ r ≡ isOverlap v ⌝ }
@@ -110,7 +113,7 @@ fn told(cell: u32, fuel: u32) -> Found
     }
 }
 
-// The search on the patterns that stand at p and q of a body: by the cycle if little is enough, else by rows in the room, and
+// The search on the patterns that stand at p and q of a body: by the cycle within its limits, else by rows in the room, and
 // where that is too short by the cycle again, as long as it takes.
 pub fn sequence_overlap(b: &[u8], p: usize, q: usize, fuel: u32, room: &mut [u32]) -> Found
     requires { ⌜ TermsAt Mode.pattern (drop p (now b)) × TermsAt Mode.pattern (drop q (now b)) × (length (now b) ≤ 32768) × (fuel ≤ 4096) ⌝ }
@@ -119,7 +122,7 @@ pub fn sequence_overlap(b: &[u8], p: usize, q: usize, fuel: u32, room: &mut [u32
 {
     let left = &b[p..];
     let right = &b[q..];
-    let tried = search::sequence(left, right, fuel, ENTRIES, DEPTH, false);
+    let tried = search::within_limits(left, right, fuel);
     if tried.done {
         let verdict = tried.verdict;
         return Found {

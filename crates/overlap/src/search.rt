@@ -1,25 +1,32 @@
 // The cycle: "sequence, split and term call one another on falling lengths". It has limits, so that a call ends soon and takes
-// little stack; where one is met the answer is not done, which is handed up at once.
+// little stack; where one is met the answer is not done, which is handed up at once. Only what can multiply is counted, the ends
+// of splits and the bracket pairs: between two of them the heads go forward in both patterns, so that a search within a limit
+// compares at most so many heads as the limit times the shorter pattern.
+use crate::DEPTH;
+use crate::ENTRIES;
 use crate::OVERLAP_FUEL;
+use crate::SHORT;
 use crate::behind_verdict;
 use crate::is_disjoint;
 use crate::is_overlap;
 use crate::literal_overlap;
 use crate::remember;
+use crate::terms::count_terms;
 use crate::terms::leftover_overlap;
 use image::part::term_len;
 use patterns::Verdict;
 use symbols::same_symbol;
 ghost use mathlib.Core.Path.{_≡_};
 ghost use mathlib.Core.Bool.{true, false};
-ghost use Prim.Native.Nat.{_-_};
+ghost use Prim.Native.Nat.{_-_, _≤_};
+ghost use lib.ListN.{length};
 ghost use Rattle.program.specs.Limits.{Mode};
 ghost use Rattle.image.specs.Parts.{TermsAt};
 ghost use Rattle.patterns.specs.Search.{absorbingSplit, overlapOfTerms, sequence};
 ghost use Rattle.rows.specs.Parts.{HeadAt};
 ghost use Rattle.overlap.specs.Steps.{behindVerdict, tried, Answers, Says};
 
-// What was found, if it is done, and how many entries are left.
+// What was found, if it is done, and how many ends and bracket pairs may still be tried.
 pub struct Tried {
     pub done: bool,
     pub verdict: Verdict,
@@ -39,14 +46,17 @@ fn stopped() -> Tried
     }
 }
 
-// Whether a limit of so many is met; where `always` is set none is.
-fn is_met(limit: u32, always: bool) -> bool
+// Whether one of two limits is met; where `always` is set none is.
+fn is_met(entries: u32, deep: u32, always: bool) -> bool
     ensures { λ r. ⌜ (always ≡ true → r ≡ false) ⌝ }
 {
     if always {
         return false;
     }
-    limit == 0
+    if entries == 0 {
+        return true;
+    }
+    deep == 0
 }
 
 fn less(limit: u32) -> u32
@@ -97,14 +107,14 @@ fn overlap_of_terms<'a>(
     let n = right[0];
     if m == 7 {
         if n == 7 {
-            if is_met(deep, always) {
+            if is_met(entries, deep, always) {
                 return stopped();
             }
             return sequence(
                 &left[9..],
                 &right[9..],
                 OVERLAP_FUEL,
-                entries,
+                less(entries),
                 less(deep),
                 always,
             );
@@ -142,16 +152,16 @@ fn absorbing_split<'a>(
     ensures answers { λ r. ⌜ ((x : TermsAt Mode.pattern (now (rest .entry))) (y : TermsAt Mode.pattern (now (other .entry))) → Answers r (absorbingSplit sequence fuel (x .terms) (y .terms))) ⌝ }
     ensures ends { λ r. ⌜ (always ≡ true → r .done ≡ true) ⌝ }
 {
-    if is_met(deep, always) {
-        return stopped();
-    }
     let inner = less(deep);
     let mut x = other;
     let mut f = fuel;
     let mut e = entries;
     let mut verdict = Verdict::Disjoint;
     loop {
-        let t = sequence(rest, x, f, e, inner, always);
+        if is_met(e, deep, always) {
+            return stopped();
+        }
+        let t = sequence(rest, x, f, less(e), inner, always);
         if !t.done {
             return stopped();
         }
@@ -189,11 +199,7 @@ pub fn sequence<'a>(
     let mut e = entries;
     let mut heads = Verdict::Overlap;
     while 0 < f {
-        if is_met(e, always) {
-            return stopped();
-        }
         f -= 1;
-        e = less(e);
         let m = x[0];
         let n = y[0];
         if m == 15 {
@@ -226,4 +232,21 @@ pub fn sequence<'a>(
         y = &y[l..];
     }
     ended(Verdict::Unknown, 0, e)
+}
+
+// The search within limits: a few ends and bracket pairs, and of long patterns as many as they have terms. Their heads are then
+// at most twice the cells of the table that the rows would fill.
+pub fn within_limits<'a>(left: &'a [u8], right: &'a [u8], fuel: u32) -> Tried
+    requires { ⌜ TermsAt Mode.pattern (now left) × TermsAt Mode.pattern (now right) × (length (now left) ≤ 32768) × (length (now right) ≤ 32768) ⌝ }
+    ensures { λ r. ⌜ ((x : TermsAt Mode.pattern (now (left .entry))) (y : TermsAt Mode.pattern (now (right .entry))) → Answers r (sequence fuel (x .terms) (y .terms))) ⌝ }
+{
+    let few = sequence(left, right, fuel, ENTRIES, DEPTH, false);
+    if few.done {
+        return few;
+    }
+    let terms = count_terms(left) + count_terms(right);
+    if terms <= SHORT {
+        return few;
+    }
+    sequence(left, right, fuel, terms as u32, DEPTH, false)
 }

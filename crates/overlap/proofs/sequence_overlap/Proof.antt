@@ -2,7 +2,7 @@
 use native.Mathlib.Omega.{arith}
 use mathlib.Core.Path.{_≡_, refl, sym, _∙_}
 use Rattle.rows.specs.Parts.{PatternIn}
-use Rattle.rows.proofs.Readings.{part, inside, at-part, pattern-at}
+use Rattle.rows.proofs.Readings.{part, part-length, inside, at-part, pattern-at}
 use Rattle.overlap.proofs.sequence_overlap.Statement.{statement}
 use Rattle.overlap.proofs.sequence_overlap.Tie as tie
 
@@ -30,15 +30,18 @@ first s = pattern-at (s .args .b .now) (s .args .p) (s .pre .0)
 second : (s : tie.Start) → PatternIn (s .args .b .now) (part (s .args .b .now) (s .args .q))
 second s = pattern-at (s .args .b .now) (s .args .q) (s .pre .1)
 
-sequence-requires : tie.Need-sequence-requires
-sequence-requires c κs = let s = (c .before .before .before .before) in (first s .pattern, second s .pattern)
+within-limits-requires : tie.Need-within-limits-requires
+within-limits-requires c κs =
+    let s = (c .before .before .before .before) in
+    let b = s .args .b .now in
+    (first s .pattern, second s .pattern, omega (arith, part-length b (s .args .p), s .pre .2), omega (arith, part-length b (s .args .q), s .pre .2))
 
 -- The cycle was done.
 returns : tie.Need-returns
 returns c =
     let s = (c .before .before .before .before .before .before) in
     let b = s .args .b .now in
-    (λ x y. (c .before) .sequence .ensures .0 (at-part b (s .args .p) x) (at-part b (s .args .q) y) (c .if1 .taken), refl)
+    (λ x y. (c .before) .within-limits .ensures (at-part b (s .args .p) x) (at-part b (s .args .q) y) (c .if1 .taken), refl)
 
 pair-cell-requires : tie.Need-pair-cell-requires
 pair-cell-requires c κs = let s = (c .before .before .before .before .before .before .before) in (first s, second s, s .pre .2)
@@ -61,8 +64,8 @@ returns-2 c =
       q .1 .0,
     )
 
-sequence-requires-2 : tie.Need-sequence-requires-2
-sequence-requires-2 c κs = let s = (c .before .before .before .before .before .before .before .before .before .before .before) in (first s .pattern, second s .pattern)
+sequence-requires : tie.Need-sequence-requires
+sequence-requires c κs = let s = (c .before .before .before .before .before .before .before .before .before .before .before) in (first s .pattern, second s .pattern)
 
 same-length-2 : tie.Need-same-length-2
 same-length-2 c = (c .before .before .before .before) .pair-cell .ensures .1 .0
@@ -72,9 +75,9 @@ returns-3 : tie.Need-returns-3
 returns-3 c =
     let s = (c .before .before .before .before .before .before .before .before .before .before .before .before) in
     let b = s .args .b .now in
-    let q = c .sequence2 .ensures in
+    let q = c .sequence .ensures in
     (λ x y. q .0 (at-part b (s .args .p) x) (at-part b (s .args .q) y) (q .1 refl), (c .before .before .before .before) .pair-cell .ensures .1 .0)
 
 pub sequence-overlap-spec : {M : Type 1} → statement M
 sequence-overlap-spec =
-    tie.close (tie.spec sub-left part-left-start part-left-end sub-right part-right-start part-right-end sequence-requires returns pair-cell-requires told-requires same-length returns-2 sequence-requires-2 same-length-2 returns-3)
+    tie.close (tie.spec sub-left part-left-start part-left-end sub-right part-right-start part-right-end within-limits-requires returns pair-cell-requires told-requires same-length returns-2 sequence-requires same-length-2 returns-3)

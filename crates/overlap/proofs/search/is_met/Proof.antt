@@ -8,7 +8,10 @@ returns : tie.Need-returns
 returns c e = refl
 
 returns-2 : tie.Need-returns-2
-returns-2 c e = absurd (true≢false (sym e ∙ c .if1 .left))
+returns-2 c e = absurd (true≢false (sym e ∙ c .before .if1 .left))
+
+returns-3 : tie.Need-returns-3
+returns-3 c e = absurd (true≢false (sym e ∙ c .before .if1 .left))
 
 pub is-met-spec : {M : Type 1} → statement M
-is-met-spec = tie.close (tie.spec returns returns-2)
+is-met-spec = tie.close (tie.spec returns returns-2 returns-3)

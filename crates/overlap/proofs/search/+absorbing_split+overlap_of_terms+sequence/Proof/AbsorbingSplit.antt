@@ -29,8 +29,14 @@ module _ (t : ℕ) where
   Loop = lts.At-loop (claims t) (at t) absorbing-split.Post Inv-loop μ-loop
 
   -- The state at the loop's head, for the patterns that the function was given.
-  abbrev given : (h : Loop) → let s = (h .before .before .before .before .before .before) in Splitting (s .args .fuel) (h .loop .x .now) (h .loop .f) (h .loop .verdict) (s .pre .1 .0 .terms) (s .pre .1 .1 .terms)
-  given h = let s = (h .before .before .before .before .before .before) in h .loop .inv .1 (s .pre .1 .0) (s .pre .1 .1)
+  abbrev given : (h : Loop) → let s = (h .before .before .before .before) in Splitting (s .args .fuel) (h .loop .x .now) (h .loop .f) (h .loop .verdict) (s .pre .1 .0 .terms) (s .pre .1 .1 .terms)
+  given h = let s = (h .before .before .before .before) in h .loop .inv .1 (s .pre .1 .0) (s .pre .1 .1)
+
+  pub less-requires : lts.Need-less-requires (claims t) (at t) absorbing-split.Post Inv-loop μ-loop
+  less-requires c κs = tt
+
+  pub loop-holds : lts.Need-loop-holds (claims t) (at t) absorbing-split.Post Inv-loop μ-loop
+  loop-holds c = (omega arith, λ u v. splitting-first ((c .before .before .before) .args .fuel) (u .terms) v)
 
   pub is-met-requires : lts.Need-is-met-requires (claims t) (at t) absorbing-split.Post Inv-loop μ-loop
   is-met-requires c κs = tt
@@ -38,18 +44,18 @@ module _ (t : ℕ) where
   pub stopped-requires : lts.Need-stopped-requires (claims t) (at t) absorbing-split.Post Inv-loop μ-loop
   stopped-requires c κs = tt
 
-  -- It would be too deep.
+  -- A limit is met.
   pub returns : lts.Need-returns (claims t) (at t) absorbing-split.Post Inv-loop μ-loop
   returns c = (λ u v d. not-both d (c .stopped .ensures), λ a. not-both ((c .before) .if1 .taken) ((c .before .before) .is-met .ensures a))
 
-  pub less-requires : lts.Need-less-requires (claims t) (at t) absorbing-split.Post Inv-loop μ-loop
-  less-requires c κs = tt
-
-  pub loop-holds : lts.Need-loop-holds (claims t) (at t) absorbing-split.Post Inv-loop μ-loop
-  loop-holds c = (omega arith, λ u v. splitting-first ((c .before .before .before .before .before) .args .fuel) (u .terms) v)
+  pub less-requires-2 : lts.Need-less-requires-2 (claims t) (at t) absorbing-split.Post Inv-loop μ-loop
+  less-requires-2 c κs = tt
 
   pub sequence-requires : lts.Need-sequence-requires (claims t) (at t) absorbing-split.Post Inv-loop μ-loop
-  sequence-requires c κs = let s = (c .before .before .before .before .before .before) in (omega (arith, s .pre .0, c .loop .inv .0), (s .pre .1 .0, given c .there))
+  sequence-requires c κs =
+      let h = (c .before .before .before) in
+      let s = (h .before .before .before .before) in
+      (omega (arith, s .pre .0, h .loop .inv .0), (s .pre .1 .0, given h .there))
 
   pub stopped-requires-2 : lts.Need-stopped-requires-2 (claims t) (at t) absorbing-split.Post Inv-loop μ-loop
   stopped-requires-2 c κs = tt
@@ -65,7 +71,7 @@ module _ (t : ℕ) where
   returns-3 c =
       let q = (c .before .before .before .before) .sequence in (
         λ u v d.
-            let r = (c .before .before .before .before .before) .loop .inv .1 u v in
+            let r = (c .before .before .before .before .before .before .before .before) .loop .inv .1 u v in
             sym (split-meets r (foundOf (q .result)) (q .ensures .0 u (r .there) (not-false _ ((c .before .before) .if2 .left))) (sym ((c .before) .is-overlap .ensures) ∙ c .if3 .taken)),
         q .ensures .1,
       )
@@ -74,7 +80,7 @@ module _ (t : ℕ) where
   remember-requires c κs = tt
 
   pub shared-slice-read-if4 : lts.Need-shared-slice-read-if4 (claims t) (at t) absorbing-split.Post Inv-loop μ-loop
-  shared-slice-read-if4 c = pattern-room (given (c .before .before .before .before .before .before .before) .there)
+  shared-slice-read-if4 c = pattern-room (given (c .before .before .before .before .before .before .before .before .before .before) .there)
 
   pub ended-requires : lts.Need-ended-requires (claims t) (at t) absorbing-split.Post Inv-loop μ-loop
   ended-requires c κs = tt
@@ -83,7 +89,7 @@ module _ (t : ℕ) where
   returns-4 c =
       let q = (c .before .before .before .before .before .before .before .before) .sequence in (
         λ u v d.
-            let r = (c .before .before .before .before .before .before .before .before .before) .loop .inv .1 u v in
+            let r = (c .before .before .before .before .before .before .before .before .before .before .before .before) .loop .inv .1 u v in
             ended-answers (c .ended .ensures) d
             ∙ ap (λ (w : Verdict). found w (q .result .fuel)) ((c .before .before .before) .remember .ensures)
             ∙ sym (split-ends r (foundOf (q .result)) (q .ensures .0 u (r .there) (not-false _ ((c .before .before .before .before .before .before) .if2 .left))) (sym ((c .before .before .before .before .before) .is-overlap .ensures) ∙ (c .before .before .before .before) .if3 .left) ((c .before) .if4 .taken)),
@@ -91,12 +97,12 @@ module _ (t : ℕ) where
       )
 
   pub term-len-requires : lts.Need-term-len-requires (claims t) (at t) absorbing-split.Post Inv-loop μ-loop
-  term-len-requires c κs = result-at (given (c .before .before .before .before .before .before .before .before) .there)
+  term-len-requires c κs = result-at (given (c .before .before .before .before .before .before .before .before .before .before .before) .there)
 
   -- The first term of the end has so many bytes.
-  fits : (c : lts.After-term-len (claims t) (at t) absorbing-split.Post Inv-loop μ-loop) → (c .term-len .result ≤ length ((c .before .before .before .before .before .before .before .before .before) .loop .x .now)) × (0 < c .term-len .result)
+  fits : (c : lts.After-term-len (claims t) (at t) absorbing-split.Post Inv-loop μ-loop) → (c .term-len .result ≤ length ((c .before .before .before .before .before .before .before .before .before .before .before .before) .loop .x .now)) × (0 < c .term-len .result)
   fits c =
-      let p = given (c .before .before .before .before .before .before .before .before .before) .there in
+      let p = given (c .before .before .before .before .before .before .before .before .before .before .before .before) .there in
       let k = c .term-len .ensures Mode.pattern p in
       (k .fits, term-long p ((c .before) .if4 .left) (c .term-len .result) k)
 
@@ -110,16 +116,16 @@ module _ (t : ℕ) where
   part-x-end c = omega arith
 
   pub loop-less : lts.Need-loop-less (claims t) (at t) absorbing-split.Post Inv-loop μ-loop
-  loop-less c = let d = (c .before) in omega (arith, fits d, part-length ((c .before .before .before .before .before .before .before .before .before .before) .loop .x .now) (d .term-len .result))
+  loop-less c = let d = (c .before) in omega (arith, fits d, part-length ((c .before .before .before .before .before .before .before .before .before .before .before .before .before) .loop .x .now) (d .term-len .result))
 
   pub loop-again : lts.Need-loop-again (claims t) (at t) absorbing-split.Post Inv-loop μ-loop
   loop-again c =
-      let h = (c .before .before .before .before .before .before .before .before .before .before) in
+      let h = (c .before .before .before .before .before .before .before .before .before .before .before .before .before) in
       let q = (c .before .before .before .before .before .before .before .before .before) .sequence in
       let i = (c .before) .term-len in (
         omega (arith, h .loop .inv .0, part-length (h .loop .x .now) (i .result)),
         λ u v.
             let r = h .loop .inv .1 u v in
-            subst (λ (w : Verdict). Splitting ((c .before .before .before .before .before .before .before .before .before .before .before .before .before .before .before .before) .args .fuel) (part (h .loop .x .now) (i .result)) (q .result .fuel) w (u .terms) (v .terms)) (sym ((c .before .before .before .before) .remember .ensures))
+            subst (λ (w : Verdict). Splitting ((c .before .before .before .before .before .before .before .before .before .before .before .before .before .before .before .before .before) .args .fuel) (part (h .loop .x .now) (i .result)) (q .result .fuel) w (u .terms) (v .terms)) (sym ((c .before .before .before .before) .remember .ensures))
             (split-goes-on r (foundOf (q .result)) (q .ensures .0 u (r .there) (not-false _ ((c .before .before .before .before .before .before .before) .if2 .left))) (sym ((c .before .before .before .before .before .before) .is-overlap .ensures) ∙ (c .before .before .before .before .before) .if3 .left) ((c .before .before) .if4 .left) (i .result) (i .ensures Mode.pattern (r .there))),
       )

@@ -55,7 +55,7 @@ sequence-below t = and 1 sequence-kinds.ps (falls 1 sequence-kinds.ps _<_ μ-seq
 -- What each member asks of those that it calls, and learns from them.
 abbrev pub absorbing-split-claims : ℕ → absorbing-split-lts.Claims
 absorbing-split-claims t =
-    (is-met-reads.Asked, is-met-reads.Learnt, stopped-reads.Asked, stopped-reads.Learnt, less-reads.Asked, less-reads.Learnt, sequence-below t, sequence.Post, is-overlap-reads.Asked, is-overlap-reads.Learnt, remember-reads.Asked, remember-reads.Learnt, ended-reads.Asked, ended-reads.Learnt, term-len-reads.Asked, term-len-reads.Learnt)
+    (less-reads.Asked, less-reads.Learnt, is-met-reads.Asked, is-met-reads.Learnt, stopped-reads.Asked, stopped-reads.Learnt, sequence-below t, sequence.Post, is-overlap-reads.Asked, is-overlap-reads.Learnt, remember-reads.Asked, remember-reads.Learnt, ended-reads.Asked, ended-reads.Learnt, term-len-reads.Asked, term-len-reads.Learnt)
 
 abbrev pub overlap-of-terms-claims : ℕ → overlap-of-terms-lts.Claims
 overlap-of-terms-claims t =
@@ -63,4 +63,4 @@ overlap-of-terms-claims t =
 
 abbrev pub sequence-claims : ℕ → sequence-lts.Claims
 sequence-claims t =
-    (is-met-reads.Asked, is-met-reads.Learnt, stopped-reads.Asked, stopped-reads.Learnt, less-reads.Asked, less-reads.Learnt, leftover-overlap-reads.Asked, leftover-overlap-reads.Learnt, ended-reads.Asked, ended-reads.Learnt, behind-heads-reads.Asked, behind-heads-reads.Learnt, term-len-reads.Asked, term-len-reads.Learnt, absorbing-split-below t, absorbing-split.Post, overlap-of-terms-below t, overlap-of-terms.Post, is-disjoint-reads.Asked, is-disjoint-reads.Learnt, remember-reads.Asked, remember-reads.Learnt)
+    (leftover-overlap-reads.Asked, leftover-overlap-reads.Learnt, ended-reads.Asked, ended-reads.Learnt, behind-heads-reads.Asked, behind-heads-reads.Learnt, term-len-reads.Asked, term-len-reads.Learnt, absorbing-split-below t, absorbing-split.Post, overlap-of-terms-below t, overlap-of-terms.Post, stopped-reads.Asked, stopped-reads.Learnt, is-disjoint-reads.Asked, is-disjoint-reads.Learnt, remember-reads.Asked, remember-reads.Learnt)

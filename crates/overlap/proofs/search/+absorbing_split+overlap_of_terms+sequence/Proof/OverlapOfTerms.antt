@@ -35,7 +35,7 @@ module _ (t : ℕ) where
   pub stopped-requires : lts.Need-stopped-requires (claims t) (at t) overlap-of-terms.Post
   stopped-requires c κs = tt
 
-  -- It would be too deep.
+  -- A limit is met.
   pub returns : lts.Need-returns (claims t) (at t) overlap-of-terms.Post
   returns c = (λ x y d. not-both d (c .stopped .ensures), λ a. not-both ((c .before) .if3 .taken) ((c .before .before) .is-met .ensures a))
 
@@ -60,18 +60,21 @@ module _ (t : ℕ) where
   pub less-requires : lts.Need-less-requires (claims t) (at t) overlap-of-terms.Post
   less-requires c κs = tt
 
+  pub less-requires-2 : lts.Need-less-requires-2 (claims t) (at t) overlap-of-terms.Post
+  less-requires-2 c κs = tt
+
   pub sequence-requires : lts.Need-sequence-requires (claims t) (at t) overlap-of-terms.Post
   sequence-requires c κs =
-      let s = (c .before .before .before .before .before .before .before .before .before .before .before) in (
+      let s = (c .before .before .before .before .before .before .before .before .before .before .before .before) in (
         omega (arith, s .pre .0, left-room s, right-room s, part-length (s .args .left .now) 9, part-length (s .args .right .now) 9),
-        (bracket-at (s .pre .1 .0) ((c .before .before .before .before .before .before) .if1 .taken) .inner, bracket-at (s .pre .1 .1) ((c .before .before .before .before .before) .if2 .taken) .inner),
+        (bracket-at (s .pre .1 .0) ((c .before .before .before .before .before .before .before) .if1 .taken) .inner, bracket-at (s .pre .1 .1) ((c .before .before .before .before .before .before) .if2 .taken) .inner),
       )
 
   pub returns-2 : lts.Need-returns-2 (claims t) (at t) overlap-of-terms.Post
   returns-2 c = (
     λ x y d.
-        let p = bracket-at x ((c .before .before .before .before .before .before .before) .if1 .taken) in
-        let q = bracket-at y ((c .before .before .before .before .before .before) .if2 .taken) in
+        let p = bracket-at x ((c .before .before .before .before .before .before .before .before) .if1 .taken) in
+        let q = bracket-at y ((c .before .before .before .before .before .before .before) .if2 .taken) in
         ap (λ (z : Found). z .verdict) (c .sequence .ensures .0 (p .inner) (q .inner) d) ∙ sym (two-brackets x y p q),
     c .sequence .ensures .1,
   )

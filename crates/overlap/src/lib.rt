@@ -1,6 +1,7 @@
 // The overlap search on two patterns, which stand at places of one body.
 mod search;
 mod terms;
+pub mod way;
 
 use patterns::Found;
 use patterns::Verdict;
@@ -13,6 +14,7 @@ ghost use Rattle.image.specs.Parts.{TermsAt};
 ghost use Rattle.patterns.specs.declared.Verdict.{Verdict};
 ghost use Rattle.patterns.specs.Search.{literalOverlap, start, sequence, patternsOverlap};
 ghost use Rattle.rows.specs.Cells.{codeOf, costing};
+ghost use Rattle.rows.specs.Rows.{Kept};
 ghost use Rattle.overlap.specs.Steps.{isOverlap, isDisjoint, remembered, behindVerdict};
 
 // The fuel of each pair of sequences.
@@ -113,12 +115,19 @@ fn told(cell: u32, fuel: u32) -> Found
     }
 }
 
-// The search on the patterns that stand at p and q of a body: by the cycle within its limits, else by rows in the room, and
-// where that is too short by the cycle again, as long as it takes.
-pub fn sequence_overlap(b: &[u8], p: usize, q: usize, fuel: u32, room: &mut [u32]) -> Found
+// The search on the patterns that stand at p and q of a body: by the cycle within its limits, else by rows in the room from
+// `from` on, and where that is too short by the cycle again, as long as it takes.
+pub fn overlap_behind(
+    b: &[u8],
+    p: usize,
+    q: usize,
+    fuel: u32,
+    from: usize,
+    room: &mut [u32],
+) -> Found
     requires { ⌜ TermsAt Mode.pattern (drop p (now b)) × TermsAt Mode.pattern (drop q (now b)) × (length (now b) ≤ 32768) × (fuel ≤ 4096) ⌝ }
     ensures answers { λ r. ⌜ ((x : TermsAt Mode.pattern (drop p (now (b .entry)))) (y : TermsAt Mode.pattern (drop q (now (b .entry)))) → r ≡ sequence fuel (x .terms) (y .terms)) ⌝ }
-    ensures keeps { λ _. ⌜ length (now (room .exit)) ≡ length (now (room .entry)) ⌝ }
+    ensures keeps { λ _. ⌜ Kept from (now (room .entry)) (now (room .exit)) ⌝ }
 {
     let left = &b[p..];
     let right = &b[q..];
@@ -130,7 +139,7 @@ pub fn sequence_overlap(b: &[u8], p: usize, q: usize, fuel: u32, room: &mut [u32
             fuel: tried.fuel,
         };
     }
-    let cell = pair_cell(b, left, right, 0, room);
+    let cell = pair_cell(b, left, right, from, room);
     if cell != 0 {
         return told(cell, fuel);
     }
@@ -140,6 +149,15 @@ pub fn sequence_overlap(b: &[u8], p: usize, q: usize, fuel: u32, room: &mut [u32
         verdict,
         fuel: whole.fuel,
     }
+}
+
+// The same in the whole room.
+pub fn sequence_overlap(b: &[u8], p: usize, q: usize, fuel: u32, room: &mut [u32]) -> Found
+    requires { ⌜ TermsAt Mode.pattern (drop p (now b)) × TermsAt Mode.pattern (drop q (now b)) × (length (now b) ≤ 32768) × (fuel ≤ 4096) ⌝ }
+    ensures answers { λ r. ⌜ ((x : TermsAt Mode.pattern (drop p (now (b .entry)))) (y : TermsAt Mode.pattern (drop q (now (b .entry)))) → r ≡ sequence fuel (x .terms) (y .terms)) ⌝ }
+    ensures keeps { λ _. ⌜ length (now (room .exit)) ≡ length (now (room .entry)) ⌝ }
+{
+    overlap_behind(b, p, q, fuel, 0, room)
 }
 
 // The same from the fuel of each pair of sequences.

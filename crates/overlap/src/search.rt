@@ -92,7 +92,7 @@ fn behind_heads(heads: Verdict, t: Tried) -> Tried
 }
 
 // The verdict on two heads, neither an `e.` variable, by their marks. What two brackets hold has a fresh fuel.
-fn overlap_of_terms<'a>(
+pub fn overlap_of_terms<'a>(
     left: &'a [u8],
     right: &'a [u8],
     entries: u32,
@@ -234,8 +234,8 @@ pub fn sequence<'a>(
     ended(Verdict::Unknown, 0, e)
 }
 
-// The search within limits: a few ends and bracket pairs, and of long patterns as many as they have terms. Their heads are then
-// at most twice the cells of the table that the rows would fill.
+// The search within limits: a few ends and bracket pairs, and of long patterns two for each of their terms. Their heads are then
+// at most four times the cells of the table that the rows would fill.
 pub fn within_limits<'a>(left: &'a [u8], right: &'a [u8], fuel: u32) -> Tried
     requires { ⌜ TermsAt Mode.pattern (now left) × TermsAt Mode.pattern (now right) × (length (now left) ≤ 32768) × (length (now right) ≤ 32768) ⌝ }
     ensures { λ r. ⌜ ((x : TermsAt Mode.pattern (now (left .entry))) (y : TermsAt Mode.pattern (now (right .entry))) → Answers r (sequence fuel (x .terms) (y .terms))) ⌝ }
@@ -248,5 +248,5 @@ pub fn within_limits<'a>(left: &'a [u8], right: &'a [u8], fuel: u32) -> Tried
     if terms <= SHORT {
         return few;
     }
-    sequence(left, right, fuel, terms as u32, DEPTH, false)
+    sequence(left, right, fuel, 2 * (terms as u32), DEPTH, false)
 }

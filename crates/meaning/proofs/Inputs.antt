@@ -198,11 +198,14 @@ read-tokens : (s : List ℕ) (l : List Token) → Reads s l → tokens s ≡ som
 unfolding tokens
 read-tokens s l r = r (length s) (omega arith)
 
+pub tokens-written : (v : Expression) → ValidExpression v → tokens (putExpression v []) ≡ some (tokensOf v [])
+tokens-written v h = read-tokens (putExpression v []) (tokensOf v []) (reads-expression v h [] [] reads-nothing)
+
 -- An input that is written in marks with zero spans is read as it was.
 pub input-read : (v : Expression) → ValidExpression v → inputOf (putExpression v []) ≡ some v
 unfolding inputOf ifRead single
 input-read v h =
-    ap (λ (o : Option (List Token)). ifRead o (λ l. ifRead (expressions l (void ∷ [])) single)) (read-tokens (putExpression v []) (tokensOf v []) (reads-expression v h [] [] reads-nothing))
+    ap (λ (o : Option (List Token)). ifRead o (λ l. ifRead (expressions l (void ∷ [])) single)) (tokens-written v h)
     ∙ (ap (λ (o : Option (List Expression)). ifRead o single) (expressions-of v void [] (void ∷ []) [] (unfold expressions in refl)) ∙ ap some (⧺-void v))
 
 -- Answers, each with its close.
@@ -214,7 +217,7 @@ abbrev pub ValidAnswers : List Expression → Type 0
 ValidAnswers [] = Unit {0}
 ValidAnswers (v ∷ l) = ValidExpression v × ValidAnswers l
 
-unfoldable answerTokens : List Expression → List Token
+unfoldable pub answerTokens : List Expression → List Token
 answerTokens [] = []
 answerTokens (v ∷ l) = tokensOf v (Token.closing ∷ answerTokens l)
 

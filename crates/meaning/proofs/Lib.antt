@@ -30,6 +30,8 @@ pub mod Space
 pub mod Ahead
 pub mod Told
 pub mod Inputs
+pub mod Tokens
+pub mod Fronts
 pub mod WatchComputing
 pub mod WatchExamples
 pub mod SiteExamples

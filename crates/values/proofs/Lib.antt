@@ -1,0 +1,4 @@
+pub mod Sizes
+pub mod Turns
+pub mod Bytes
+pub mod Expressions

@@ -31,7 +31,9 @@ use Rattle.cleaning.proofs.Witnesses.{witnessed-kept}
 use Rattle.output.proofs.MarkPart.{fell-apart}
 use Rattle.cleaner.specs.Delivery.{marksIn}
 use Rattle.cleaner.specs.Done.{Done}
-use Rattle.report.specs.Notes.{NotesWritten}
+use Rattle.report.specs.Emitting.{Readable, Decided}
+use Rattle.report.specs.Notes.{NotesWritten, OnlyOpen}
+use Rattle.report.proofs.OpenNotes.{open-fell, open-readable}
 use Rattle.report.proofs.SiteNotes.{written-only}
 use Rattle.cleaner.proofs.Delivered.{marks-same}
 
@@ -78,24 +80,34 @@ root-found w e = e
 pub linked-ready : {b : List ℕ} {w : Program} {m : List ℕ} {p : Plan} {root : ℕ} → ProgramLinked b w m p → root ≡ rootPlace w → RoundsReady b w m p root
 linked-ready l e = record { indexed = l .indexed; fell = l .fell; asked = l .asked; root-is = e }
 
--- The rounds are done when the sentences that are left are marked and the sites noted.
-pub rounds-done : {b : List ℕ} {w : Program} {start old mid new : List ℕ} {p : Plan} {root n : ℕ} → length b ≤ 32768 → RoundsReady b w start p root → RoundsMade w start old p n → Apart old mid (marks p) (calls p)
-    → ((s : ℕ) → isKept (marksIn p mid) s ≡ (ltb s (p .sentences) && eqb (fellOf p old s) 0)) → NotesWritten w mid new p (p .functions) → Done b w new p root n
-rounds-done {b} {w} {start} {old} {mid} {new} {p} {root} {n} h r m a k o =
-    let e = fell-from p mid new (λ s l. o .before (lines p + s) (omega arith)) ∙ fun-ext (fell-apart p old mid a) in
-    let d = only-rounds-indexed (m .only) (r .indexed) in
-    let i = marks-indexed a d in
-    record {
-      removing = record {
-        readable = record {
-          indexed = only-rounds-indexed (written-only o) i;
-          short = h;
-          witnessed = subst (λ (f : ℕ → ℕ). Witnessed (isThere f afterAll) w new p) (sym e) (witnessed-kept (d .sentences) (λ s l. o .before (witnesses p + s) (omega arith) ∙ a .before (witnesses p + s) (omega arith)) (m .witnessed));
-          noted = record { list = λ f x q. o .noted f x (omega (arith, element-below (w .functions) f x q, d .functions)) q };
+-- When the sentences that are left are marked and the sites noted, the report can read the entries.
+module _ {b : List ℕ} {w : Program} {start old mid noted : List ℕ} {p : Plan} {root n : ℕ} (h : length b ≤ 32768) (r : RoundsReady b w start p root) (m : RoundsMade w start old p n) (a : Apart old mid (marks p) (calls p)) (o : NotesWritten w mid noted p (p .functions)) where
+  noted-fell : fellOf p noted ≡ fellOf p old
+  noted-fell = fell-from p mid noted (λ s l. o .before (lines p + s) (omega arith)) ∙ fun-ext (fell-apart p old mid a)
+
+  pub noted-readable : Readable b w noted p
+  noted-readable =
+      let d = only-rounds-indexed (m .only) (r .indexed) in
+      record {
+        indexed = only-rounds-indexed (written-only o) (marks-indexed a d);
+        short = h;
+        witnessed = subst (λ (f : ℕ → ℕ). Witnessed (isThere f afterAll) w noted p) (sym noted-fell) (witnessed-kept (d .sentences) (λ s l. o .before (witnesses p + s) (omega arith) ∙ a .before (witnesses p + s) (omega arith)) (m .witnessed));
+        noted = record { list = λ f x q. o .noted f x (omega (arith, element-below (w .functions) f x q, d .functions)) q };
+      }
+
+  -- And when it is noted which of them are undecided, the rounds are done.
+  pub rounds-done : {new : List ℕ} → ((s : ℕ) → isKept (marksIn p mid) s ≡ (ltb s (p .sentences) && eqb (fellOf p old s) 0)) → OnlyOpen p noted new → Decided b new p → Done b w new p root n
+  rounds-done {new} k u c =
+      let e = open-fell u ∙ noted-fell in
+      record {
+        removing = record {
+          readable = open-readable u noted-readable;
+          told = subst (λ (f : ℕ → ℕ). Told w f n) (sym e) (m .told);
+          below = λ s. omega (arith, ap (λ (f : ℕ → ℕ). f s) e, m .below s);
+          decided = c;
         };
-        told = subst (λ (f : ℕ → ℕ). Told w f n) (sym e) (m .told);
-        below = λ s. omega (arith, ap (λ (f : ℕ → ℕ). f s) e, m .below s);
-      };
-      root-is = r .root-is;
-      marked = λ s. ap (λ (x : List ℕ). isKept x s) (marks-same p mid new (i .fits) (o .length) (λ j l. o .before j (omega (arith, l)))) ∙ (k s ∙ ap (λ (f : ℕ → ℕ). ltb s (p .sentences) && eqb (f s) 0) (sym e));
-    }
+        root-is = r .root-is;
+        marked = λ s.
+            ap (λ (x : List ℕ). isKept x s) (marks-same p mid new (omega (arith, noted-readable .indexed .fits, o .length)) (u .length ∙ o .length) (λ j i l. u .after j (omega (arith, i)) (omega (arith, l)) ∙ o .before j (omega (arith, l))))
+            ∙ (k s ∙ ap (λ (f : ℕ → ℕ). ltb s (p .sentences) && eqb (f s) 0) (sym e));
+      }

@@ -83,7 +83,7 @@ written-as image output output′ n e f = f ∙ ap (λ (k : ℕ). image ++ drop 
 pub marks-are : (m : List ℕ) (p : Plan) {from end : ℕ} → from ≡ marks p → end ≡ calls p → take (end - from) (drop from m) ≡ marksIn p m
 marks-are m p {from} d e = ap (λ (k : ℕ). take (k - from) (drop from m)) e ∙ ap (λ (k : ℕ). take (calls p - k) (drop k m)) d
 
-pub marks-same : (p : Plan) (old new : List ℕ) → room p ≤ length old → length new ≡ length old → ((k : ℕ) → k < calls p → getD new k 0 ≡ getD old k 0) → marksIn p new ≡ marksIn p old
+pub marks-same : (p : Plan) (old new : List ℕ) → room p ≤ length old → length new ≡ length old → ((k : ℕ) → marks p ≤ k → k < calls p → getD new k 0 ≡ getD old k 0) → marksIn p new ≡ marksIn p old
 marks-same p old new h z q =
     let k = calls p - marks p in
     let e : length (take k (drop (marks p) old)) ≡ k = length-take-le k (drop (marks p) old) (omega (arith, h, length-drop (marks p) old)) in
@@ -91,13 +91,13 @@ marks-same p old new h z q =
     ext-getD 0 (marksIn p new) (marksIn p old) (f ∙ sym e)
     (λ i l.
     getD-take k (drop (marks p) new) i 0 (omega (arith, l, f))
-    ∙ (getD-drop (marks p) new i 0 ∙ (q (marks p + i) (omega (arith, l, f)) ∙ sym (getD-take k (drop (marks p) old) i 0 (omega (arith, l, f)) ∙ getD-drop (marks p) old i 0))))
+    ∙ (getD-drop (marks p) new i 0 ∙ (q (marks p + i) (omega arith) (omega (arith, l, f)) ∙ sym (getD-take k (drop (marks p) old) i 0 (omega (arith, l, f)) ∙ getD-drop (marks p) old i 0))))
 
 -- ---- verdicts have been asked meanwhile
 
 module _ {p : Plan} {old new : List ℕ} (u : Used p old new) where
   pub marks-used : room p ≤ length old → marksIn p new ≡ marksIn p old
-  marks-used h = marks-same p old new h (u .length) (λ k l. u .columns k (omega (arith, l)))
+  marks-used h = marks-same p old new h (u .length) (λ k i l. u .columns k (omega (arith, l)))
 
   -- A text is told by the rounds in work as by those before.
   pub emitted-used : (w : Program) (n : ℕ) {lent left : List ℕ} {at : ℕ} → Emitted lent 0 (formatCleanReport (toldReport w (fellOf p new) n)) at left → Emitted lent 0 (formatCleanReport (toldReport w (fellOf p old) n)) at left

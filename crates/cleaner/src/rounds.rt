@@ -4,6 +4,7 @@ use cleaning::root::root_place;
 use cleaning::rounds::clean_rounds;
 use index::Plan;
 use output::left::mark_left;
+use report::decided::note_undecided;
 use report::notes::note_repeats;
 ghost use Prim.Native.Nat.{_<_, _≤_};
 ghost use lib.ListN.{length};
@@ -18,7 +19,7 @@ pub struct Rounds {
     pub rounds: usize,
 }
 
-// Links the sites, goes through the rounds, marks the sentences that are left, and notes the sites for the report.
+// Links the sites, goes through the rounds, marks the sentences that are left, and notes sites and sentences for the report.
 pub fn clean_listed(b: &[u8], work: &mut [u32], plan: Plan) -> Rounds
     requires { ⌜ SomeListing (now b) (now work) plan × (length (now b) ≤ 32768) ⌝ }
     ensures done { λ r. ⌜ ((w : Program) → ProgramListed (now (b .entry)) w (now (work .entry)) plan → Done (now (b .entry)) w (now (work .exit)) plan (r .root) (r .rounds)) ⌝ }
@@ -30,5 +31,6 @@ pub fn clean_listed(b: &[u8], work: &mut [u32], plan: Plan) -> Rounds
     let rounds = clean_rounds(b, work, plan, root);
     mark_left(work, plan);
     note_repeats(work, plan);
+    note_undecided(b, work, plan);
     Rounds { root, rounds }
 }

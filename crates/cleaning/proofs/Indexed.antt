@@ -103,13 +103,16 @@ module _ {b : List ℕ} {w : Program} {old new : List ℕ} {p : Plan} (o : OnlyR
   }
 
 -- Rounds stand in the sentences' entries.
-pub fell-from : (p : Plan) (old new : List ℕ) → ((s : ℕ) → s < p .sentences → getD new (lines p + s) 0 ≡ getD old (lines p + s) 0) → fellOf p new ≡ fellOf p old
+pub fell-by : (p : Plan) (old new : List ℕ) → ((s : ℕ) → s < p .sentences → getD new (lines p + s) 0 / 32768 % 4096 ≡ getD old (lines p + s) 0 / 32768 % 4096) → fellOf p new ≡ fellOf p old
 unfolding fellOf
-fell-from p old new h = fun-ext (λ k. by k (ltb k (p .sentences)) refl)
+fell-by p old new h = fun-ext (λ k. by k (ltb k (p .sentences)) refl)
   where
     by : (k : ℕ) (t : Bool) → ltb k (p .sentences) ≡ t → cond t (getD new (lines p + k) 0 / 32768 % 4096) 0 ≡ cond t (getD old (lines p + k) 0 / 32768 % 4096) 0
-    by k true e = ap (λ (n : ℕ). n / 32768 % 4096) (h k (ltb-true k (p .sentences) e))
+    by k true e = h k (ltb-true k (p .sentences) e)
     by k false e = refl
+
+pub fell-from : (p : Plan) (old new : List ℕ) → ((s : ℕ) → s < p .sentences → getD new (lines p + s) 0 ≡ getD old (lines p + s) 0) → fellOf p new ≡ fellOf p old
+fell-from p old new h = fell-by p old new (λ s l. ap (λ (n : ℕ). n / 32768 % 4096) (h s l))
 
 -- ---- sites only go
 

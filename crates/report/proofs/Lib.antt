@@ -1,5 +1,6 @@
 pub mod Leaders
 pub mod SiteNotes
+pub mod OpenNotes
 pub mod Namesakes
 pub mod Places
 pub mod Telling

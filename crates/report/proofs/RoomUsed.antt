@@ -1,16 +1,16 @@
 -- What verdicts leave of the entries that the report reads.
-use Prim.Native.Nat.{ℕ, suc, _+_, _<_}
+use Prim.Native.Nat.{ℕ, suc, _+_, _/_, _<_}
 use native.Mathlib.Omega.{arith}
 use mathlib.Core.Path.{_≡_, sym, ap, subst, _∙_}
-use mathlib.Core.Bool.{Bool}
+use mathlib.Core.Bool.{Bool, true}
 use mathlib.Core.List.{List}
-use lib.ListN.{length, getD, take}
+use lib.Dec.{eqb}
+use lib.ListN.{getD}
 use Rattle.program.specs.Syntax.{Program}
 use Rattle.index.specs.declared.Plan.{Plan}
-use Rattle.index.specs.Layout.{witnesses, links, notes}
+use Rattle.index.specs.Layout.{lines, witnesses, links}
 use Rattle.index.specs.Links.{entryNext}
-use Rattle.index.proofs.First.{element-below}
-use Rattle.meaning.specs.Lists.{any}
+use Rattle.told.specs.Asked.{isJudged}
 use Rattle.told.specs.Numbered.{sitesOf}
 use Rattle.told.specs.History.{isThere, afterAll, Told}
 use Rattle.cleaning.specs.Indexed.{fellOf}
@@ -20,11 +20,13 @@ use Rattle.told.specs.ToldReport.{toldReport}
 use Rattle.cleaning.proofs.Room.{used-fell, used-indexed}
 use Rattle.cleaning.proofs.Witnesses.{witnessed-kept}
 use Rattle.report.specs.declared.format.Figures.{Figures}
-use Rattle.report.specs.Notes.{standsIn, blocks, Noted}
-use Rattle.report.specs.Emitting.{Readable, SomeReadable}
+use Rattle.report.specs.Notes.{isOpen, openAt}
+use Rattle.report.specs.Emitting.{Readable, SomeReadable, Decided}
 use Rattle.report.specs.Leading.{SomeSite}
 use Rattle.report.specs.Removed.{Removing}
 use Rattle.report.specs.Figures.{FiguresOf, Reporting}
+use Rattle.report.proofs.Places.{owned-below}
+use Rattle.report.proofs.SiteNotes.{noted-same}
 
 -- The columns before were those after.
 pub used-back : {p : Plan} {old new : List ℕ} → Used p old new → Used p new old
@@ -38,23 +40,12 @@ module _ {p : Plan} {old new : List ℕ} (u : Used p old new) where
   pub used-next : (from i : ℕ) → from ≡ links p → i < p .sites → (v : ℕ) → v ≡ entryNext (getD new (from + i) 0) → v ≡ entryNext (getD old (links p + i) 0)
   used-next from i e h v z = z ∙ (ap (λ (k : ℕ). entryNext (getD new (k + i) 0)) e ∙ ap entryNext (u .columns (links p + i) (omega arith)))
 
-  used-noted : {w : Program} → length (sitesOf w) ≡ p .sites → Noted w old p → Noted w new p
-  used-noted {w} c n = record {
-    list = λ f x e. record {
-      earlier = λ i y a v r.
-          let l : i < p .sites = omega (arith, c, element-below (sitesOf w) i y (a .is)) in
-          let q = u .columns (links p + i) (omega arith) in
-          ap (λ (k : ℕ). standsIn k r) (u .columns (notes p + i) (omega arith))
-          ∙ (n .list f x e .earlier i y a (omega (arith, v, q)) r ∙ ap (λ (t : ℕ → ℕ). any (blocks (isThere t r) (x .name) y) (take i (sitesOf w))) (sym (used-fell u)));
-    };
-  }
-
   pub used-readable : {b : List ℕ} {w : Program} → Readable b w old p → Readable b w new p
   used-readable {b} {w} d = record {
     indexed = used-indexed u (d .indexed);
     short = d .short;
     witnessed = subst (λ (k : ℕ → Bool). Witnessed k w new p) (sym (used-keep afterAll)) (witnessed-kept (d .indexed .sentences) (λ s l. u .columns (witnesses p + s) (omega arith)) (d .witnessed));
-    noted = used-noted (d .indexed .sites) (d .noted);
+    noted = noted-same old new w (d .indexed .sites) (used-fell u) (λ k a l. u .columns k l) (d .noted);
   }
 
   pub used-some : {b : List ℕ} → SomeReadable b old p → SomeReadable b new p
@@ -72,11 +63,22 @@ module _ {p : Plan} {old new : List ℕ} (u : Used p old new) where
     listed = s .listed;
   }
 
+used-decided : {p : Plan} {old new : List ℕ} → Used p old new → {b : List ℕ} → Decided b old p → Decided b new p
+unfolding isOpen
+used-decided {p} u h = record {
+  told = λ w f x s y d o j.
+      let e = used-fell u in
+      ap (λ (n : ℕ). eqb (n / 134217728) 1) (u .columns (lines p + s) (omega (arith, owned-below d o)))
+      ∙ (h .told w f x s y (used-readable (used-back u) d) o (subst (λ (t : ℕ → ℕ). isJudged (isThere t afterAll) (x .name) (sitesOf w) ≡ true) e j) ∙ ap (λ (t : ℕ → ℕ). openAt (isThere t afterAll) (sitesOf w) x s y) (sym e));
+}
+
+module _ {p : Plan} {old new : List ℕ} (u : Used p old new) where
   pub used-removing : {b : List ℕ} {w : Program} {n : ℕ} → Removing b w old p n → Removing b w new p n
   used-removing {b} {w} {n} d = record {
-    readable = used-readable (d .readable);
+    readable = used-readable u (d .readable);
     told = subst (λ (f : ℕ → ℕ). Told w f n) (sym (used-fell u)) (d .told);
     below = subst (λ (f : ℕ → ℕ). (s : ℕ) → f s < suc n) (sym (used-fell u)) (d .below);
+    decided = used-decided u (d .decided);
   }
 
   pub used-reporting : {b : List ℕ} {w : Program} {n : ℕ} {g : Figures} → Reporting b w old p n g → Reporting b w new p n g

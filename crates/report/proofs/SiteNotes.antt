@@ -18,7 +18,7 @@ use Rattle.told.specs.Calls.{isListed}
 use Rattle.told.specs.History.{isThere}
 use Rattle.index.specs.declared.Plan.{Plan}
 use Rattle.restrictions.specs.Entries.{entrySentence}
-use Rattle.index.specs.Layout.{lines, calls, links, notes}
+use Rattle.index.specs.Layout.{lines, calls, links, notes, room}
 use Rattle.index.specs.First.{First}
 use Rattle.index.specs.Links.{entryNext, entryClass, isRepeat}
 use Rattle.index.specs.Lists.{Among}
@@ -30,7 +30,7 @@ use Rattle.cleaning.specs.Indexed.{Indexed, fellOf, OnlyRounds}
 use Rattle.cleaning.proofs.Classes.{one-name}
 use Rattle.cleaning.proofs.Indexed.{fell-from, only-rounds-indexed}
 use Rattle.cleaning.proofs.Meeting.{here-element, here-listed, number-is}
-use Rattle.report.specs.Notes.{standsIn, blocks, NotedList, NotedSite, OnlyNotes, Noting, NotesWritten}
+use Rattle.report.specs.Notes.{standsIn, blocks, NotedList, Noted, NotedSite, OnlyNotes, Noting, NotesWritten}
 use Rattle.report.proofs.Leaders.{none-taken, drop-element, any-taken, repeat-alike, class-one, blocks-not, next-listed}
 
 -- ---- the later of two rounds
@@ -409,4 +409,17 @@ notes-next {b} {w} {old} {new} {next} {p} {f} d k x e n = record {
       (λ u. noted-kept (x .name) (y .name) (sitesOf w) new next p (d .sites) (n .0) (n .1) (k .noted g y u q))
       (λ u. subst (λ (v : Function). NotedList (v .name) (sitesOf w) next p) (element-same (w .functions) f x y e (subst (λ (m : ℕ). getElem? (w .functions) m ≡ some y) u q)) (n .0))
       h;
+}
+
+-- ---- notes among entries that are the same
+
+pub noted-same : {p : Plan} (old new : List ℕ) (w : Program) → length (sitesOf w) ≡ p .sites → fellOf p new ≡ fellOf p old → ((k : ℕ) → links p ≤ k → k < room p → getD new k 0 ≡ getD old k 0) → Noted w old p → Noted w new p
+noted-same {p} old new w c e h n = record {
+  list = λ f x z. record {
+    earlier = λ i y a v r.
+        let l : i < p .sites = omega (arith, c, element-below (sitesOf w) i y (a .is)) in
+        let q = h (links p + i) (omega arith) (omega arith) in
+        ap (λ (k : ℕ). standsIn k r) (h (notes p + i) (omega arith) (omega arith))
+        ∙ (n .list f x z .earlier i y a (omega (arith, v, q)) r ∙ ap (λ (t : ℕ → ℕ). any (blocks (isThere t r) (x .name) y) (take i (sitesOf w))) (sym e));
+  };
 }

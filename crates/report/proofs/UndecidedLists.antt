@@ -21,6 +21,7 @@ use Rattle.told.specs.ToldReport.{overlaps, undecidedIn, judgedOnly, undecidedT
 use Rattle.meaning.specs.Report.{undecidedLine}
 use Rattle.report.specs.Listing.{eachFrom}
 use Rattle.report.specs.Sentence.{sentenceText}
+use Rattle.report.specs.Notes.{openAt}
 use Rattle.report.specs.Undecided.{undecidedOne, undecidedSome, lastUndecided, undecidedAt}
 use Rattle.report.proofs.Telling.{no-element}
 
@@ -66,21 +67,13 @@ undecided-text x y =
 
 module _ (keep : ℕ → Bool) (sites : List Held) where
   module _ (x : Function) (s : ℕ) (y : Sentence) where
-    pub not-there : keep s ≡ false → [] ≡ undecidedAt keep sites x s y
-    unfolding undecidedAt
-    not-there e = sym (ap (λ (t : Bool). cond (t && not (any (overlaps keep (x .name) (y .pattern)) sites)) (undecidedOne x y ∷ []) []) e)
+    pub not-open : openAt keep sites x s y ≡ false → [] ≡ undecidedAt keep sites x s y
+    unfolding openAt undecidedAt
+    not-open e = sym (ap (λ (t : Bool). cond t (undecidedOne x y ∷ []) []) e)
 
-    pub is-decided : any (overlaps keep (x .name) (y .pattern)) sites ≡ true → [] ≡ undecidedAt keep sites x s y
-    unfolding undecidedAt
-    is-decided e = by (keep s) ∙ sym (ap (λ (t : Bool). cond (keep s && not t) (undecidedOne x y ∷ []) []) e)
-      where
-        by : (t : Bool) → [] ≡ cond (t && false) (undecidedOne x y ∷ []) []
-        by true = refl
-        by false = refl
-
-    pub is-candidate : keep s ≡ true → any (overlaps keep (x .name) (y .pattern)) sites ≡ false → undecidedOne x y ∷ [] ≡ undecidedAt keep sites x s y
-    unfolding undecidedAt
-    is-candidate e g = sym (ap₂ (λ (t u : Bool). cond (t && not u) (undecidedOne x y ∷ []) []) e g)
+    pub is-open : openAt keep sites x s y ≡ true → undecidedOne x y ∷ [] ≡ undecidedAt keep sites x s y
+    unfolding openAt undecidedAt
+    is-open e = sym (ap (λ (t : Bool). cond t (undecidedOne x y ∷ []) []) e)
 
   module _ (x : Function) where
     abbrev test : Sentence → Bool

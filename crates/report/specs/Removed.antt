@@ -19,7 +19,7 @@ use Rattle.cleaning.specs.Walks.{Owns}
 use Rattle.told.specs.ToldReport.{Fallen, fallenFrom, removedOf, sameFallen}
 use Rattle.text.specs.Fill.{Emitted}
 use Rattle.meaning.specs.Report.{removedLine}
-use Rattle.report.specs.Emitting.{Readable}
+use Rattle.report.specs.Emitting.{Readable, Decided}
 
 -- By round, and within a round by number.
 unfoldable pub isEarlier : ℕ → ℕ → Fallen → Bool
@@ -72,11 +72,12 @@ pub record Listed (w : Program) (fell : ℕ → ℕ) (n : ℕ) (l : List Fallen)
   pub text : Emitted s at (linesOf w fell n l) after bytes
   pub told : counted ≡ count + length (listedOf w fell n l)
 
--- The entries of w, of which n rounds have been told.
+-- The entries of w, of which n rounds have been told, and which sentences are undecided.
 pub record Removing (b : List ℕ) (w : Program) (m : List ℕ) (p : Plan) (n : ℕ) : Type 0 where
   pub readable : Readable b w m p
   pub told : Told w (fellOf p m) n
   pub below : (s : ℕ) → fellOf p m s < suc n
+  pub decided : Decided b m p
 
 pub record SomeRemoving (b m : List ℕ) (p : Plan) (n : ℕ) : Type 0 where
   pub program : Program

@@ -1,5 +1,6 @@
 // The report's lines, from the entries of work.
 pub mod alike;
+pub mod decided;
 pub mod format;
 pub mod leading;
 pub mod names;

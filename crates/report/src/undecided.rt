@@ -2,42 +2,30 @@
 use crate::AFTER_ALL;
 use crate::alike::same_function;
 use crate::alike::same_pattern;
+use crate::decided::is_undecided;
 use crate::sentence::put_sentence;
 use cleaning::rounds::first_sentence;
-use cleaning::verdict::verdict_at;
 use cleaning::walks::is_judged;
-use cleaning::walks::is_there;
-use cleaning::walks::site_there;
-use cleaning::walks::witness_of;
 use index::Plan;
-use index::columns::links_of;
-use index::columns::pattern_place;
-use index::table::next_site;
-use overlap::is_overlap;
 use text::emit::put_byte;
 ghost use mathlib.Core.Path.{_≡_};
-ghost use mathlib.Core.Bool.{true};
 ghost use mathlib.Core.List.{[], _∷_, flatMap};
 ghost use mathlib.Core.Option.{some};
-ghost use Prim.Native.Nat.{ℕ, suc, _+_, _*_, _<_, _≤_};
-ghost use lib.ListN.{length, getElem?, drop};
+ghost use Prim.Native.Nat.{suc, _+_, _*_, _<_, _≤_};
+ghost use lib.ListN.{length, getElem?};
 ghost use Rattle.program.specs.Syntax.{Function, Program};
-ghost use Rattle.program.specs.Limits.{Mode};
-ghost use Rattle.image.specs.Parts.{TermsAt};
 ghost use Rattle.program.specs.Sentences.{Sentence, ownSentences};
 ghost use Rattle.meaning.specs.Lists.{any};
-ghost use Rattle.told.specs.Numbered.{Held, sentencesBefore, sitesOf};
-ghost use Rattle.told.specs.Calls.{isListed};
+ghost use Rattle.told.specs.Numbered.{sentencesBefore, sitesOf};
 ghost use Rattle.told.specs.Asked.{isJudged};
 ghost use Rattle.meaning.specs.CleanReport.{sameUndecided};
 ghost use Rattle.told.specs.History.{isThere, afterAll};
-ghost use Rattle.cleaning.specs.Indexed.{Indexed, fellOf};
-ghost use Rattle.cleaning.specs.Room.{Used};
-ghost use Rattle.told.specs.ToldReport.{overlaps, undecidedIn, judgedOnly, undecidedTold, runsAfter};
-ghost use Rattle.cleaning.specs.Walks.{SomeAsked, Owns};
+ghost use Rattle.cleaning.specs.Indexed.{fellOf};
+ghost use Rattle.told.specs.ToldReport.{undecidedIn, judgedOnly, undecidedTold, runsAfter};
+ghost use Rattle.cleaning.specs.Walks.{Owns};
 ghost use Rattle.text.specs.Fill.{Emitted, limit};
 ghost use Rattle.meaning.specs.Report.{undecidedLine};
-ghost use Rattle.report.specs.Emitting.{Readable, SomeReadable, SomeSentence};
+ghost use Rattle.report.specs.Emitting.{Readable, SomeReadable, SomeSentence, Decided, Judged};
 ghost use Rattle.report.specs.Undecided.{undecidedOne, lastUndecided, undecidedAt, Undecided};
 
 // The place after the lines so far, how many they are, and the last candidate: its function, and which of the
@@ -47,43 +35,6 @@ pub struct Listed {
     pub count: usize,
     pub function: usize,
     pub item: usize,
-}
-
-// Whether the site i is there when the round begins, and the pattern that stands at `pattern` of the body b has an Overlap with it.
-fn overlaps_at(
-    b: &[u8],
-    work: &mut [u32],
-    plan: Plan,
-    pattern: usize,
-    i: usize,
-    round: usize,
-) -> bool
-    requires { ⌜ SomeAsked (now b) (now work) plan pattern i × (length (now b) ≤ 32768) ⌝ }
-    ensures answers { λ r. ⌜ ((w : Program) (f : ℕ) (x : Function) (y : Held) → Indexed (now (b .entry)) w (now (work .entry)) plan → getElem? (w .functions) f ≡ some x → getElem? (sitesOf w) i ≡ some y → isListed true (x .name) y ≡ true → (t : TermsAt Mode.pattern (drop pattern (now (b .entry)))) → r ≡ overlaps (isThere (fellOf plan (now (work .entry))) round) (x .name) (t .terms) y) ⌝ }
-    ensures keeps { λ _. ⌜ Used plan (now (work .entry)) (now (work .exit)) ⌝ }
-{
-    if !site_there(work, plan, i, round) {
-        return false;
-    }
-    is_overlap(verdict_at(b, work, plan, pattern, i))
-}
-
-// Whether a restriction of the f-th function gives its sentence s Overlap in the end. The sites before its witness give Disjoint.
-fn is_decided(b: &[u8], work: &mut [u32], plan: Plan, f: usize, s: usize) -> bool
-    requires { ⌜ SomeSentence (now b) (now work) plan f s ⌝ }
-    ensures answers { λ r. ⌜ ((w : Program) (x : Function) (y : Sentence) → Readable (now (b .entry)) w (now (work .entry)) plan → Owns w f x s y → r ≡ any (overlaps (isThere (fellOf plan (now (work .entry))) afterAll) (x .name) (y .pattern)) (sitesOf w)) ⌝ }
-    ensures keeps { λ _. ⌜ Used plan (now (work .entry)) (now (work .exit)) ⌝ }
-{
-    let pattern = pattern_place(work, plan, s);
-    let links = links_of(plan);
-    let mut i = witness_of(work, plan, f, s);
-    while i < plan.sites {
-        if overlaps_at(b, work, plan, pattern, i, AFTER_ALL) {
-            return true;
-        }
-        i = next_site(work, links, i);
-    }
-    false
 }
 
 // Whether the candidate, the sentence s of the f-th function, repeats the last one.
@@ -135,22 +86,18 @@ fn put_candidate(
 // Tells the sentence s of the f-th function, if it is left and undecided.
 fn put_if_undecided(
     b: &[u8],
-    work: &mut [u32],
+    work: &[u32],
     plan: Plan,
     f: usize,
     s: usize,
     out: &mut [u8],
     listed: Listed,
 ) -> Listed
-    requires { ⌜ SomeSentence (now b) (now work) plan f s × (listed .function ≤ f) × (listed .at + 80000 ≤ limit) × (listed .count ≤ listed .at) ⌝ }
+    requires { ⌜ SomeSentence (now b) (now work) plan f s × (listed .function ≤ f) × (listed .at + 80000 ≤ limit) × (listed .count ≤ listed .at) × Decided (now b) (now work) plan × Judged (now b) (now work) plan f ⌝ }
     ensures told { λ r. ⌜ ((w : Program) (x : Function) (y : Sentence) → Readable (now (b .entry)) w (now (work .entry)) plan → Owns w f x s y → Undecided w (undecidedAt (isThere (fellOf plan (now (work .entry))) afterAll) (sitesOf w) x s y) (now (out .entry)) (listed .at) (listed .count) (listed .function) (listed .item) (now (out .exit)) (r .at) (r .count) (r .function) (r .item)) ⌝ }
     ensures short { λ r. ⌜ (r .at ≤ listed .at + 80000) × (r .count ≤ r .at) × (r .function ≤ f) ⌝ }
-    ensures keeps { λ _. ⌜ Used plan (now (work .entry)) (now (work .exit)) ⌝ }
 {
-    if !is_there(work, plan, s, AFTER_ALL) {
-        return listed;
-    }
-    if is_decided(b, work, plan, f, s) {
+    if !is_undecided(work, plan, s) {
         return listed;
     }
     put_candidate(b, work, plan, f, s, out, listed)
@@ -159,16 +106,15 @@ fn put_if_undecided(
 // Tells the undecided sentences of the f-th function.
 fn put_undecided_in(
     b: &[u8],
-    work: &mut [u32],
+    work: &[u32],
     plan: Plan,
     f: usize,
     out: &mut [u8],
     listed: Listed,
 ) -> Listed
-    requires { ⌜ SomeReadable (now b) (now work) plan × (f < plan .functions) × (listed .function ≤ f) × ((w : Program) → Readable (now b) w (now work) plan → listed .at + 80000 * sentencesBefore (suc f) (w .functions) ≤ limit + 80000 * sentencesBefore f (w .functions)) × (listed .count ≤ listed .at) ⌝ }
+    requires { ⌜ SomeReadable (now b) (now work) plan × (f < plan .functions) × (listed .function ≤ f) × ((w : Program) → Readable (now b) w (now work) plan → listed .at + 80000 * sentencesBefore (suc f) (w .functions) ≤ limit + 80000 * sentencesBefore f (w .functions)) × (listed .count ≤ listed .at) × Decided (now b) (now work) plan × Judged (now b) (now work) plan f ⌝ }
     ensures told { λ r. ⌜ ((w : Program) (x : Function) → Readable (now (b .entry)) w (now (work .entry)) plan → getElem? (w .functions) f ≡ some x → Undecided w (undecidedIn (isThere (fellOf plan (now (work .entry))) afterAll) (sitesOf w) (sentencesBefore f (w .functions)) x) (now (out .entry)) (listed .at) (listed .count) (listed .function) (listed .item) (now (out .exit)) (r .at) (r .count) (r .function) (r .item)) ⌝ }
     ensures short { λ r. ⌜ ((w : Program) → Readable (now (b .entry)) w (now (work .entry)) plan → r .at + 80000 * sentencesBefore f (w .functions) ≤ listed .at + 80000 * sentencesBefore (suc f) (w .functions)) × (r .count ≤ r .at) × (r .function ≤ f) ⌝ }
-    ensures keeps { λ _. ⌜ Used plan (now (work .entry)) (now (work .exit)) ⌝ }
 {
     let end = first_sentence(work, plan, f + 1);
     let mut s = first_sentence(work, plan, f);
@@ -183,16 +129,15 @@ fn put_undecided_in(
 // The same, if a round would judge the f-th function: the others give nothing.
 fn put_if_judged(
     b: &[u8],
-    work: &mut [u32],
+    work: &[u32],
     plan: Plan,
     f: usize,
     out: &mut [u8],
     listed: Listed,
 ) -> Listed
-    requires { ⌜ SomeReadable (now b) (now work) plan × (f < plan .functions) × (listed .function ≤ f) × ((w : Program) → Readable (now b) w (now work) plan → listed .at + 80000 * sentencesBefore (suc f) (w .functions) ≤ limit + 80000 * sentencesBefore f (w .functions)) × (listed .count ≤ listed .at) ⌝ }
+    requires { ⌜ SomeReadable (now b) (now work) plan × (f < plan .functions) × (listed .function ≤ f) × ((w : Program) → Readable (now b) w (now work) plan → listed .at + 80000 * sentencesBefore (suc f) (w .functions) ≤ limit + 80000 * sentencesBefore f (w .functions)) × (listed .count ≤ listed .at) × Decided (now b) (now work) plan ⌝ }
     ensures told { λ r. ⌜ ((w : Program) (x : Function) → Readable (now (b .entry)) w (now (work .entry)) plan → getElem? (w .functions) f ≡ some x → Undecided w (judgedOnly (isJudged (isThere (fellOf plan (now (work .entry))) afterAll) (x .name) (sitesOf w)) (undecidedIn (isThere (fellOf plan (now (work .entry))) afterAll) (sitesOf w) (sentencesBefore f (w .functions)) x)) (now (out .entry)) (listed .at) (listed .count) (listed .function) (listed .item) (now (out .exit)) (r .at) (r .count) (r .function) (r .item)) ⌝ }
     ensures short { λ r. ⌜ ((w : Program) → Readable (now (b .entry)) w (now (work .entry)) plan → r .at + 80000 * sentencesBefore f (w .functions) ≤ listed .at + 80000 * sentencesBefore (suc f) (w .functions)) × (r .count ≤ r .at) × (r .function ≤ f) ⌝ }
-    ensures keeps { λ _. ⌜ Used plan (now (work .entry)) (now (work .exit)) ⌝ }
 {
     if !is_judged(work, plan, f, AFTER_ALL) {
         return listed;
@@ -201,12 +146,11 @@ fn put_if_judged(
 }
 
 // Every undecided sentence as a line, neighbouring repeats left out.
-pub fn put_undecided(b: &[u8], work: &mut [u32], plan: Plan, out: &mut [u8], at: usize) -> Listed
-    requires { ⌜ SomeReadable (now b) (now work) plan × (at + 8192 * 80000 ≤ limit) ⌝ }
+pub fn put_undecided(b: &[u8], work: &[u32], plan: Plan, out: &mut [u8], at: usize) -> Listed
+    requires { ⌜ SomeReadable (now b) (now work) plan × (at + 8192 * 80000 ≤ limit) × Decided (now b) (now work) plan ⌝ }
     ensures told { λ r. ⌜ ((w : Program) → Readable (now (b .entry)) w (now (work .entry)) plan → Emitted (now (out .entry)) at (flatMap undecidedLine (runsAfter sameUndecided [] (undecidedTold (isThere (fellOf plan (now (work .entry))) afterAll) (sitesOf w) 0 (w .functions)))) (r .at) (now (out .exit))) ⌝ }
     ensures counted { λ r. ⌜ ((w : Program) → Readable (now (b .entry)) w (now (work .entry)) plan → r .count ≡ length (runsAfter sameUndecided [] (undecidedTold (isThere (fellOf plan (now (work .entry))) afterAll) (sitesOf w) 0 (w .functions)))) ⌝ }
     ensures short { λ r. ⌜ r .at ≤ at + 8192 * 80000 ⌝ }
-    ensures keeps { λ _. ⌜ Used plan (now (work .entry)) (now (work .exit)) ⌝ }
 {
     let mut last = Listed {
         at: at,

@@ -1,15 +1,12 @@
 -- `report::format::put_lists` meets its contract. Assumes nothing.
-use Prim.Native.Nat.{ℕ}
 use native.Mathlib.Omega.{arith}
-use mathlib.Core.Path.{ap, _∙_}
+use mathlib.Core.Path.{_∙_}
 use mathlib.Core.List.{_++_, flatMap}
 use Rattle.patterns.specs.Ascii.{ascii}
 use Rattle.cleaning.specs.Indexed.{fellOf}
-use Rattle.cleaning.proofs.Room.{used-fell, used-then}
 use Rattle.text.specs.Counts.{countLine}
 use Rattle.meaning.specs.Report.{removedLine, undecidedLine, uncoveredLine}
 use Rattle.text.proofs.Fill.{emitted-append, emitted-same, emitted-length}
-use Rattle.report.proofs.RoomUsed.{used-readable, used-some}
 use Rattle.report.proofs.Whole.{removedNow, undecidedNow, uncoveredNow, lists-told}
 use borrow.Author.Needs.{needs}
 use Rattle.report.proofs.format.put_lists.Statement.{statement}
@@ -32,50 +29,47 @@ slice-aggregate-put-count-line-2 c = search needs
 
 put-count-line-requires-2 : tie.Need-put-count-line-requires-2
 put-count-line-requires-2 c κs =
-    let s = (c .before .before .before .before .before .before .before .before .before .before .before .before .before .before .before .before .before .before .before .before .before .before) in
-    (s .pre .0 .few .uncovered, omega (arith, c .before .before .before .before .before .before .put-undecided .ensures .1 .1 .0, c .before .before .before .before .before .before .before .before .before .before .before .put-count-line .ensures .1, c .before .before .before .before .before .before .before .before .before .before .before .before .before .before .before .before .put-removed .ensures .1 .1, s .pre .2))
+    let s = c .before .before .before .before .before .before .before .before .before .before .before .before .before .before .before .before .before .before .before .before in
+    (s .pre .0 .few .uncovered, omega (arith, c .before .before .before .before .put-undecided .ensures .1 .1, c .before .before .before .before .before .before .before .before .before .put-count-line .ensures .1, c .before .before .before .before .before .before .before .before .before .before .before .before .before .before .put-removed .ensures .1 .1, s .pre .2))
 
 put-uncovered-requires : tie.Need-put-uncovered-requires
 put-uncovered-requires c κs =
-    let p = c .before .before .before .before .before .before .before .before .before .before .before .before .before .before .before .before .before .before .before .before .before .before .before .before .before .before .before .pre in
-    let u = c .before .before .before .before .before .before .before .before .before .before .before .put-undecided .ensures .1 .1 .1 in (
-      used-some u (record { program = p .0 .program; readable = p .0 .reporting .removing .readable }),
-      omega (arith, c .before .before .before .before .put-count-line2 .ensures .1, c .before .before .before .before .before .before .before .before .before .before .before .put-undecided .ensures .1 .1 .0, c .before .before .before .before .before .before .before .before .before .before .before .before .before .before .before .before .put-count-line .ensures .1, c .before .before .before .before .before .before .before .before .before .before .before .before .before .before .before .before .before .before .before .before .before .put-removed .ensures .1 .1, p .2),
+    let p = c .before .before .before .before .before .before .before .before .before .before .before .before .before .before .before .before .before .before .before .before .before .before .before .before .before .pre in (
+      record { program = p .0 .program; readable = p .0 .reporting .removing .readable },
+      omega (arith, c .before .before .before .before .put-count-line2 .ensures .1, c .before .before .before .before .before .before .before .before .before .put-undecided .ensures .1 .1, c .before .before .before .before .before .before .before .before .before .before .before .before .before .before .put-count-line .ensures .1, c .before .before .before .before .before .before .before .before .before .before .before .before .before .before .before .before .before .before .before .put-removed .ensures .1 .1, p .2),
     )
 
 same-length : tie.Need-same-length
-same-length c = c .before .before .before .before .put-uncovered .ensures .1 .1 .1 .length ∙ c .before .before .before .before .before .before .before .before .before .before .before .before .before .before .before .before .put-undecided .ensures .1 .1 .1 .length
+same-length c = c .before .before .before .before .put-uncovered .ensures .1 .1 .1 .length
 
 same-length-2 : tie.Need-same-length-2
 same-length-2 c =
-    let w = (c .before .before .before .before .before .before .before .before .before .before .before .before .before .before .before .before .before .before .before .before .before .before .before .before .before .before .before .before .before .before .before .before) .pre .0 .program in
-    let x = (c .before .before .before .before .before .before .before .before .before .before .before .before .before .before .before .before .before .before .before .before .before .before .before .before .before .before .before .before .before .before .before .before) .pre .0 .reporting .removing in
-    let u = c .before .before .before .before .before .before .before .before .before .before .before .before .before .before .before .before .put-undecided .ensures .1 .1 .1 in
-    emitted-length (c .before .before .before .before .put-uncovered .ensures .0 w (used-readable u (x .readable)))
-    ∙ (emitted-length (c .before .before .before .before .before .before .before .before .before .put-count-line2 .ensures .0) ∙ (emitted-length (c .before .before .before .before .before .before .before .before .before .before .before .before .before .before .before .before .put-undecided .ensures .0 w (x .readable)) ∙ (emitted-length (c .before .before .before .before .before .before .before .before .before .before .before .before .before .before .before .before .before .before .before .before .before .put-count-line .ensures .0) ∙ emitted-length (c .before .before .before .before .before .before .before .before .before .before .before .before .before .before .before .before .before .before .before .before .before .before .before .before .before .before .put-removed .ensures .0 w x))))
+    let w = c .before .before .before .before .before .before .before .before .before .before .before .before .before .before .before .before .before .before .before .before .before .before .before .before .before .before .before .before .before .before .pre .0 .program in
+    let x = c .before .before .before .before .before .before .before .before .before .before .before .before .before .before .before .before .before .before .before .before .before .before .before .before .before .before .before .before .before .before .pre .0 .reporting .removing in
+    emitted-length (c .before .before .before .before .put-uncovered .ensures .0 w (x .readable))
+    ∙ (emitted-length (c .before .before .before .before .before .before .before .before .before .put-count-line2 .ensures .0) ∙ (emitted-length (c .before .before .before .before .before .before .before .before .before .before .before .before .before .before .put-undecided .ensures .0 w (x .readable)) ∙ (emitted-length (c .before .before .before .before .before .before .before .before .before .before .before .before .before .before .before .before .before .before .before .put-count-line .ensures .0) ∙ emitted-length (c .before .before .before .before .before .before .before .before .before .before .before .before .before .before .before .before .before .before .before .before .before .before .before .before .put-removed .ensures .0 w x))))
 
 returns : tie.Need-returns
 unfolding ascii
 returns c =
-    let a = (c .before .before .before .before .before .before .before .before .before .before .before .before .before .before .before .before .before .before .before .before .before .before .before .before .before .before .before .before .before .before .before .before) .args in
+    let s = c .before .before .before .before .before .before .before .before .before .before .before .before .before .before .before .before .before .before .before .before .before .before .before .before .before .before .before .before .before .before in
+    let a = s .args in
     let fell = fellOf (a .plan) (a .work .now) in
     let n = a .rounds in
     let u = countLine (ascii "undecided: ") (a .figures .undecided) in
     let v = countLine (ascii "uncovered: ") (a .figures .uncovered) in
-    let undecided = c .before .before .before .before .before .before .before .before .before .before .before .before .before .before .before .before .put-undecided .ensures in
-    let uncovered = c .before .before .before .before .put-uncovered .ensures in
-    let used = undecided .1 .1 .1 in (
+    let undecided = c .before .before .before .before .before .before .before .before .before .before .before .before .before .before .put-undecided .ensures in
+    let uncovered = c .before .before .before .before .put-uncovered .ensures in (
       λ w x.
           let d = x .removing in
-          emitted-same (lists-told w fell n (d .below) ((c .before .before .before .before .before .before .before .before .before .before .before .before .before .before .before .before .before .before .before .before .before .before .before .before .before .before .before .before .before .before .before .before) .pre .1) (a .figures) (x .figures))
-          (emitted-append (flatMap removedLine (removedNow w fell n)) (u ++ (flatMap undecidedLine (undecidedNow w fell n) ++ (v ++ flatMap uncoveredLine (uncoveredNow w fell n)))) (c .before .before .before .before .before .before .before .before .before .before .before .before .before .before .before .before .before .before .before .before .before .before .before .before .before .before .put-removed .ensures .0 w d)
-          (emitted-append u (flatMap undecidedLine (undecidedNow w fell n) ++ (v ++ flatMap uncoveredLine (uncoveredNow w fell n))) (c .before .before .before .before .before .before .before .before .before .before .before .before .before .before .before .before .before .before .before .before .before .put-count-line .ensures .0)
+          emitted-same (lists-told w fell n (d .below) (s .pre .1) (a .figures) (x .figures))
+          (emitted-append (flatMap removedLine (removedNow w fell n)) (u ++ (flatMap undecidedLine (undecidedNow w fell n) ++ (v ++ flatMap uncoveredLine (uncoveredNow w fell n)))) (c .before .before .before .before .before .before .before .before .before .before .before .before .before .before .before .before .before .before .before .before .before .before .before .before .put-removed .ensures .0 w d)
+          (emitted-append u (flatMap undecidedLine (undecidedNow w fell n) ++ (v ++ flatMap uncoveredLine (uncoveredNow w fell n))) (c .before .before .before .before .before .before .before .before .before .before .before .before .before .before .before .before .before .before .before .put-count-line .ensures .0)
           (emitted-append (flatMap undecidedLine (undecidedNow w fell n)) (v ++ flatMap uncoveredLine (uncoveredNow w fell n)) (undecided .0 w (d .readable))
-          (emitted-append v (flatMap uncoveredLine (uncoveredNow w fell n)) (c .before .before .before .before .before .before .before .before .before .put-count-line2 .ensures .0)
-          (emitted-same (ap (λ (f : ℕ → ℕ). flatMap uncoveredLine (uncoveredNow w f n)) (used-fell used)) (uncovered .0 w (used-readable used (d .readable)))))))),
+          (emitted-append v (flatMap uncoveredLine (uncoveredNow w fell n)) (c .before .before .before .before .before .before .before .before .before .put-count-line2 .ensures .0) (uncovered .0 w (d .readable)))))),
       (
-        omega (arith, uncovered .1 .1 .0, c .before .before .before .before .before .before .before .before .before .put-count-line2 .ensures .1, undecided .1 .1 .0, c .before .before .before .before .before .before .before .before .before .before .before .before .before .before .before .before .before .before .before .before .before .put-count-line .ensures .1, c .before .before .before .before .before .before .before .before .before .before .before .before .before .before .before .before .before .before .before .before .before .before .before .before .before .before .put-removed .ensures .1 .1, (c .before .before .before .before .before .before .before .before .before .before .before .before .before .before .before .before .before .before .before .before .before .before .before .before .before .before .before .before .before .before .before .before) .pre .2),
-        used-then used (uncovered .1 .1 .1),
+        omega (arith, uncovered .1 .1 .0, c .before .before .before .before .before .before .before .before .before .put-count-line2 .ensures .1, undecided .1 .1, c .before .before .before .before .before .before .before .before .before .before .before .before .before .before .before .before .before .before .before .put-count-line .ensures .1, c .before .before .before .before .before .before .before .before .before .before .before .before .before .before .before .before .before .before .before .before .before .before .before .before .put-removed .ensures .1 .1, s .pre .2),
+        uncovered .1 .1 .1,
       ),
     )
 

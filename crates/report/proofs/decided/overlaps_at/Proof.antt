@@ -1,4 +1,4 @@
--- `report::undecided::overlaps_at` meets its contract. Assumes nothing.
+-- `report::decided::overlaps_at` meets its contract. Assumes nothing.
 use Prim.Native.Nat.{ℕ, _<_}
 use mathlib.Core.Path.{sym, _∙_}
 use mathlib.Core.Bool.{Bool, true, false}
@@ -8,8 +8,8 @@ use Rattle.cleaning.proofs.Meeting.{not-is, site-below, sentence-below}
 use Rattle.cleaning.proofs.Room.{used-same}
 use Rattle.report.proofs.Verdicts.{overlaps-gone, overlaps-asked}
 use borrow.Author.Needs.{needs}
-use Rattle.report.proofs.undecided.overlaps_at.Statement.{statement}
-use Rattle.report.proofs.undecided.overlaps_at.Tie as tie
+use Rattle.report.proofs.decided.overlaps_at.Statement.{statement}
+use Rattle.report.proofs.decided.overlaps_at.Tie as tie
 
 abbrev keep : tie.Start → ℕ → Bool
 keep s = isThere (fellOf (s .args .plan) (s .args .work .now)) (s .args .round)

@@ -1,4 +1,4 @@
--- `report::undecided::is_decided` meets its contract. Assumes nothing.
+-- `report::decided::is_decided` meets its contract. Assumes nothing.
 use Prim.Native.Nat.{ℕ, _+_, _-_, _<_}
 use native.Mathlib.Omega.{arith}
 use mathlib.Core.Path.{_≡_, sym, ap, _∙_}
@@ -24,9 +24,8 @@ use Rattle.report.specs.Emitting.{Readable}
 use Rattle.report.proofs.Places.{owner-below, owned-below, pattern-at}
 use Rattle.report.proofs.RoomUsed.{used-keep, used-next}
 use Rattle.report.proofs.Verdicts.{overlaps-less, walk-first, walk-end, walk-element, walk-listed, walk-found, walk-next}
-use borrow.Author.Needs.{needs}
-use Rattle.report.proofs.undecided.is_decided.Statement.{statement}
-use Rattle.report.proofs.undecided.is_decided.Tie as tie
+use Rattle.report.proofs.decided.is_decided.Statement.{statement}
+use Rattle.report.proofs.decided.is_decided.Tie as tie
 
 -- Nothing before i overlaps, and i is on the list.
 abbrev Inv-loop : tie.InvT-loop

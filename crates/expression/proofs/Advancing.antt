@@ -1,35 +1,17 @@
 -- One step by places of the body: which split it is, or which heads, and what stands behind them.
-use Prim.Native.Nat.{ℕ, suc, _+_, _-_, _<_, _≤_}
-use native.Mathlib.Omega.{arith}
-use mathlib.Core.Path.{_≡_, refl, sym, ap, _∙_}
+use Prim.Native.Nat.{ℕ, suc}
+use mathlib.Core.Path.{_≡_, sym, _∙_}
 use mathlib.Core.Bool.{Bool, not}
 use mathlib.Core.List.{List, [], _++_}
-use lib.ListN.{length, getD, drop, length-drop}
-use lib.Seq.{drop-drop, getD-drop}
+use lib.ListN.{getD, drop}
 use Rattle.program.specs.Limits.{Mode}
 use Rattle.image.specs.Parts.{TermsAt, tail}
 use Rattle.patterns.specs.Search.{View, view}
-use Rattle.symbols.proofs.Parts.{part-rest}
 use Rattle.rows.specs.Parts.{HeadAt}
-use Rattle.rows.proofs.Readings.{part, is-empty, is-not-empty, is-absorbing, one-head, head-at, at-part}
-use Rattle.rows.proofs.Heads.{BracketAt, head-room}
+use Rattle.rows.proofs.Readings.{is-empty, is-not-empty, is-absorbing, one-head, head-at}
+use Rattle.overlap.proofs.Ways.{mark-at}
 use Rattle.expression.specs.Walk.{meetBytes, splitBytes, headBytes}
 use Rattle.expression.proofs.Meeting.{first-ends, second-ends, first-splits, second-splits, heads-meet}
-
--- The mark of what stands at a place.
-pub mark-at : (b : List ℕ) (i : ℕ) → getD (drop i b) 0 0 ≡ getD b i 0
-mark-at b i = getD-drop i b 0 0 ∙ ap (λ (k : ℕ). getD b k 0) (omega arith)
-
--- What a bracket at a place holds.
-abbrev pub inner-at : (b : List ℕ) (i : ℕ) {x : HeadAt (drop i b)} → BracketAt x → TermsAt Mode.pattern (drop (i + 9) b)
-inner-at b i k = record { terms = k .inner .terms; rest = k .inner .rest; is = sym (part-rest (drop i b) 9 ∙ drop-drop 9 i b) ∙ k .inner .is; valid = k .inner .valid }
-
--- A head at a place stands at the start of the part from there.
-abbrev pub head-part : (b : List ℕ) (i : ℕ) → HeadAt (drop i b) → HeadAt (part b i)
-head-part b i x = record { pattern = at-part b i (x .pattern); head = x .head; rest = x .rest; is = x .is }
-
-pub head-inside : (b : List ℕ) (i : ℕ) → HeadAt (drop i b) → i + 9 < length b
-head-inside b i x = omega (arith, head-room x, length-drop i b)
 
 module _ (b : List ℕ) (left right : ℕ) (swapped : Bool) (fuel : ℕ) (x : TermsAt Mode.pattern (drop left b)) (y : TermsAt Mode.pattern (drop right b)) where
   abbrev whole : List ℕ

@@ -5,3 +5,4 @@ pub mod Symbols
 pub mod Freeing
 pub mod Walking
 pub mod Advancing
+pub mod Leading

@@ -17,5 +17,5 @@ pub fn put_meeting(b: &[u8], p: usize, q: usize, out: &mut [u8], room: &mut [u32
     requires { ⌜ TermsAt Mode.pattern (drop p (now b)) × TermsAt Mode.pattern (drop q (now b)) × (length (now b) ≤ 32768) ⌝ }
     ensures { λ r. ⌜ ((x : TermsAt Mode.pattern (drop p (now (b .entry)))) (y : TermsAt Mode.pattern (drop q (now (b .entry)))) → Emitted (now (out .entry)) 0 (putExpression (meet (x .terms) (y .terms)) []) r (now (out .exit))) ⌝ }
 {
-    walk::meet(b, p, q, false, 4096, out, 0, room)
+    walk::meet(b, p, q, false, 4096, out, 0, 0, room)
 }

@@ -41,6 +41,7 @@ mark-of b i m e = mark-in b i ∙ e
 pub mark-not : (b : List ℕ) (i m : ℕ) → (getD b i 0 ≡ m → ⊥) → getD (part b i) 0 0 ≡ m → ⊥
 mark-not b i m n e = n (sym (mark-in b i) ∙ e)
 
+-- The mark of what stands at a place.
 pub mark-at : (b : List ℕ) (i : ℕ) → getD (drop i b) 0 0 ≡ getD b i 0
 mark-at b i = getD-drop i b 0 0 ∙ ap (λ (k : ℕ). getD b k 0) (omega arith)
 

@@ -2,7 +2,6 @@
 // what follows the `e.` variable, the end in turn and its fuel. It looks for a success and nothing else: where a bracket pair is
 // Unknown, fuel runs out or the room is too short it finds no way.
 use crate::OVERLAP_FUEL;
-use crate::is_disjoint;
 use crate::is_overlap;
 use crate::overlap_behind;
 use crate::search::overlap_of_terms;
@@ -151,6 +150,14 @@ pub fn place_in(room: &[u32], k: usize) -> usize
     ensures { λ r. ⌜ r ≡ getD (now (room .entry)) k 0 ⌝ }
 {
     wide(room[k])
+}
+
+// A fuel that stands there.
+pub fn fuel_in(room: &[u32], k: usize) -> u32
+    requires { ⌜ k < length (now room) ⌝ }
+    ensures { λ r. ⌜ r ≡ getD (now (room .entry)) k 0 ⌝ }
+{
+    room[k]
 }
 
 fn wide(n: u32) -> usize

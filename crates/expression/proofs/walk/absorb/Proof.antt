@@ -1,157 +1,87 @@
--- `expression::walk::absorb` meets its contract: the ends from `right` on make up what all of them do.
-use Prim.Native.Nat.{_+_, _-_, _<_, _≤_}
+-- `expression::walk::absorb` meets its contract.
+use Prim.Native.Nat.{_+_, _-_, _*_}
 use native.Mathlib.Omega.{arith}
 use mathlib.Core.Path.{_≡_, refl, sym, _∙_}
-use lib.ListN.{length, drop}
-use Rattle.program.specs.Limits.{Mode}
-use Rattle.image.specs.Parts.{TermsAt}
-use Rattle.image.proofs.Readings.{result-at}
-use Rattle.rows.proofs.Readings.{inside, at-part, pattern-room, next-fits}
+use mathlib.Core.List.{[]}
 use borrow.Author.Needs.{needs}
-use Rattle.expression.specs.Walk.{splitBytes}
-use Rattle.expression.proofs.Walking.{Absorbing, absorbing-first, absorbing-meets, absorbing-fails, absorbing-short, absorbing-next}
+use Rattle.rows.proofs.Places.{kept-same, kept-less}
+use Rattle.overlap.specs.Way.{Taken, Way, inTurn}
+use Rattle.expression.proofs.Leading.{ahead-told, fails-less, onwards-none}
 use Rattle.expression.proofs.walk.absorb.Statement.{statement}
 use Rattle.expression.proofs.walk.absorb.Tie as tie
 
-abbrev Inv-loop : tie.InvT-loop
-Inv-loop b rest other swapped fuel out₀ at room₀ right₀ f₀ place₀ out room right f place =
-    (length out ≡ length out₀) × (length room ≡ length room₀)
-    × ((x : TermsAt Mode.pattern (drop rest b)) (y : TermsAt Mode.pattern (drop other b)) → Absorbing b out₀ at other fuel swapped (x .terms) (splitBytes swapped fuel (x .terms) (y .terms)) right f place out)
+ask-requires : tie.Need-ask-requires
+ask-requires c κs = search needs
 
-abbrev μ-loop : tie.MeasureT-loop
-μ-loop b rest other swapped fuel out₀ at room₀ right₀ f₀ place₀ out room right f place = length b - right
+same-length : tie.Need-same-length
+same-length c = search needs
 
--- The state at the loop's head, for the readings that the function was given.
-abbrev given : (h : tie.At-loop Inv-loop μ-loop)
-    → Absorbing (h .before .before .before .before .args .b .now) (h .before .before .before .before .args .out .now) (h .before .before .before .before .args .at) (h .before .before .before .before .args .other) (h .before .before .before .before .args .fuel) (h .before .before .before .before .args .swapped) (h .before .before .before .before .pre .0 .first .terms) (splitBytes (h .before .before .before .before .args .swapped) (h .before .before .before .before .args .fuel) (h .before .before .before .before .pre .0 .first .terms) (h .before .before .before .before .pre .0 .second .terms)) (h .loop .right) (h .loop .f) (h .loop .place) (h .loop .out)
-given h = h .loop .inv .2 (h .before .before .before .before .pre .0 .first) (h .before .before .before .before .pre .0 .second)
+same-length-2 : tie.Need-same-length-2
+same-length-2 c = search needs
 
-loop-holds : tie.Need-loop-holds Inv-loop μ-loop
-loop-holds c = (refl, refl, λ x y. absorbing-first (c .before .before .before .args .b .now) (c .before .before .before .args .out .now) (c .before .before .before .args .at) (c .before .before .before .args .other) (c .before .before .before .args .fuel) (c .before .before .before .args .swapped) (x .terms) y)
+-- No end is known.
+returns : tie.Need-returns
+returns c =
+    let s = c .before .before .before .before .before .before .before .before .before .before .before in
+    let a = c .before .before .before .before .ask in
+    let z = c .before .before .before .before .before .before .before .if1 .taken in
+    (a .ensures .0, (onwards-none (s .args .b .now) (s .args .room .now) _ (a .result) (a .ensures .1 .1) (omega (arith, a .ensures .1 .0, z)), kept-less (omega (arith, z)) (a .ensures .1 .2)))
 
-asked-requires : tie.Need-asked-requires Inv-loop μ-loop
-asked-requires c κs =
-    let w = given (c .before) in
-    (c .before .before .before .before .before .pre .0 .first, w .there, c .before .before .before .before .before .pre .1, omega (arith, w .less, c .before .before .before .before .before .pre .2))
+add-place-in : tie.Need-add-place-in
+add-place-in c = search needs
 
-sub-x : tie.Need-sub-x Inv-loop μ-loop
-sub-x c = omega (arith, inside (c .before .before .before .before .before .before .before .before .args .b .now) (c .before .before .before .before .loop .right) (given (c .before .before .before .before) .there))
+place-in-requires : tie.Need-place-in-requires
+place-in-requires c κs = search needs
 
-part-x-start : tie.Need-part-x-start Inv-loop μ-loop
-part-x-start c = omega (arith, inside (c .before .before .before .before .before .before .before .before .args .b .now) (c .before .before .before .before .loop .right) (given (c .before .before .before .before) .there))
+add-fuel-in : tie.Need-add-fuel-in
+add-fuel-in c = search needs
 
-part-x-end : tie.Need-part-x-end Inv-loop μ-loop
-part-x-end c = omega arith
+fuel-in-requires : tie.Need-fuel-in-requires
+fuel-in-requires c κs = search needs
 
-is-overlap-requires : tie.Need-is-overlap-requires Inv-loop μ-loop
-is-overlap-requires c κs = search needs
+-- The end and its fuel have been read.
+abbrev Read : Type 0
+Read = tie.After-fuel-in
 
-same-length : tie.Need-same-length Inv-loop μ-loop
-same-length c = c .before .before .before .before .before .before .before .loop .inv .0
+abbrev start-of : Read → tie.Start
+start-of c = c .before .before .before .before .before .before .before .before
 
-same-length-2 : tie.Need-same-length-2 Inv-loop μ-loop
-same-length-2 c = c .before .before .before .before .before .asked .kept .1 .1 .1 .1 .0 ∙ c .before .before .before .before .before .before .before .loop .inv .1
+abbrev told : (c : Read) → let s = start-of c .args in Taken (s .b .now) (s .rest) (s .other) (s .fuel) (record { place = c .before .before .place-in .result; fuel = c .fuel-in .result }) × Way (s .b .now) (inTurn (s .room .now) (s .next + 3) (s .known - 1) []) (c .fuel-in .result) (s .rest) (c .before .before .place-in .result)
+told c =
+    let s = start-of c in
+    ahead-told (s .args .b .now) (s .args .room .now) (s .args .next) (s .args .known) (s .args .rest) (s .args .other) (s .args .fuel) (s .pre .3) (c .before .before .before .before .if1 .left) (c .before .before .place-in .result) (c .fuel-in .result) (c .before .before .place-in .ensures) (c .fuel-in .ensures)
 
-returns : tie.Need-returns Inv-loop μ-loop
-returns c = λ x y.
-    let w = c .before .before .before .before .before .before .before .loop .inv .2 x y in
-    let q = c .before .before .before .before .before .asked in
-    record {
-      text = w .text;
-      emitted = w .emitted;
-      first = x;
-      second = w .there;
-      is = absorbing-meets w (q .result) (q .ensures x (w .there)) (sym (c .before .is-overlap .ensures) ∙ c .if1 .taken);
-      further = omega (arith, w .further);
-      less = w .less;
-    }
+follow-requires : tie.Need-follow-requires
+follow-requires c κs =
+    let d = c .before in
+    let s = start-of d in
+    (record { rest = s .args .rest; fuel = s .args .fuel; left = d .fuel-in .result; swapped = s .args .swapped; splits = s .pre .0; taken = told d .0 }, s .pre .1)
 
-shared-slice-read-if2 : tie.Need-shared-slice-read-if2 Inv-loop μ-loop
-shared-slice-read-if2 c = pattern-room (at-part (c .before .before .before .before .before .before .before .before .before .before .before .before .args .b .now) (c .before .before .before .before .before .before .before .before .loop .right) (given (c .before .before .before .before .before .before .before .before) .there))
+add-t21 : tie.Need-add-t21
+add-t21 c = search needs
 
-same-length-3 : tie.Need-same-length-3 Inv-loop μ-loop
-same-length-3 c = c .before .before .before .before .before .before .before .before .before .loop .inv .0
+sub-t26 : tie.Need-sub-t26
+sub-t26 c = search needs
 
-same-length-4 : tie.Need-same-length-4 Inv-loop μ-loop
-same-length-4 c = c .before .before .before .before .before .before .before .asked .kept .1 .1 .1 .1 .0 ∙ c .before .before .before .before .before .before .before .before .before .loop .inv .1
+same-length-3 : tie.Need-same-length-3
+same-length-3 c = search needs
 
-returns-2 : tie.Need-returns-2 Inv-loop μ-loop
-returns-2 c = λ x y.
-    let w = c .before .before .before .before .before .before .before .before .before .loop .inv .2 x y in
-    let q = c .before .before .before .before .before .before .before .asked in
-    record {
-      text = w .text;
-      emitted = w .emitted;
-      first = x;
-      second = w .there;
-      is = absorbing-fails w (q .result) (q .ensures x (w .there)) (sym (c .before .before .before .is-overlap .ensures) ∙ c .before .before .if1 .left) (c .if2 .taken);
-      further = omega (arith, w .further);
-      less = omega arith;
-    }
+same-length-4 : tie.Need-same-length-4
+same-length-4 c = search needs
 
-put-free-term-requires : tie.Need-put-free-term-requires Inv-loop μ-loop
-put-free-term-requires c κs =
-    let w = given (c .before .before .before .before .before .before .before .before .before .before) in
-    let q = c .before .before .before .before .before .before .before .before .asked in (
-      record {
-        pattern = at-part (c .before .before .before .before .before .before .before .before .before .before .before .before .before .before .args .b .now) (c .before .before .before .before .before .before .before .before .before .before .loop .right) (w .there);
-        short = absorbing-short w (q .result) (q .ensures (c .before .before .before .before .before .before .before .before .before .before .before .before .before .before .pre .0 .first) (w .there)) (sym (c .before .before .before .before .is-overlap .ensures) ∙ c .before .before .before .if1 .left) (c .before .if2 .left) (c .before .before .before .before .before .before .before .before .before .before .before .before .before .before .pre .0 .short);
-      },
-      c .before .if2 .left,
-    )
-
-term-len-requires : tie.Need-term-len-requires Inv-loop μ-loop
-term-len-requires c κs = result-at (at-part (c .before .before .before .before .before .before .before .before .before .before .before .before .before .before .before .before .before .args .b .now) (c .before .before .before .before .before .before .before .before .before .before .before .before .before .loop .right) (given (c .before .before .before .before .before .before .before .before .before .before .before .before .before) .there))
-
--- Past a term of n bytes.
-fits : (c : tie.After-term-len Inv-loop μ-loop) → (c .before .before .before .before .before .before .before .before .before .before .before .before .before .before .loop .right + c .term-len .result ≤ length (c .before .before .before .before .before .before .before .before .before .before .before .before .before .before .before .before .before .before .args .b .now)) × (0 < c .term-len .result)
-fits c =
-    let b = c .before .before .before .before .before .before .before .before .before .before .before .before .before .before .before .before .before .before .args .b .now in
-    let w = given (c .before .before .before .before .before .before .before .before .before .before .before .before .before .before) in
-    let x = at-part b (c .before .before .before .before .before .before .before .before .before .before .before .before .before .before .loop .right) (w .there) in
-    let f = next-fits b (c .before .before .before .before .before .before .before .before .before .before .before .before .before .before .loop .right) x (c .before .before .before .before .before .if2 .left) (omega (arith, inside b (c .before .before .before .before .before .before .before .before .before .before .before .before .before .before .loop .right) (w .there))) (c .term-len .result) (c .term-len .ensures Mode.pattern x) in
-    (f .0, f .1)
-
-add-right : tie.Need-add-right Inv-loop μ-loop
-add-right c = omega (arith, fits c .0)
-
-loop-less : tie.Need-loop-less Inv-loop μ-loop
-loop-less c = omega (arith, fits c .0, fits c .1)
-
-loop-again : tie.Need-loop-again Inv-loop μ-loop
-loop-again c =
-    let b = c .before .before .before .before .before .before .before .before .before .before .before .before .before .before .before .before .before .before .args .b .now in
-    let q = c .before .before .before .before .before .before .before .before .before .before .before .before .asked in
-    let e = c .before .before .before .put-free-term in (
-      e .kept .0 ∙ c .before .before .before .before .before .before .before .before .before .before .before .before .before .before .loop .inv .0,
-      q .kept .1 .1 .1 .1 .0 ∙ c .before .before .before .before .before .before .before .before .before .before .before .before .before .before .loop .inv .1,
+returns-2 : tie.Need-returns-2
+returns-2 c =
+    let d = c .before .before .before .before in
+    let s = start-of d in
+    let k = told d in
+    let z = d .before .before .before .before .if1 .left in (
       λ x y.
-          let w = c .before .before .before .before .before .before .before .before .before .before .before .before .before .before .loop .inv .2 x y in
-          let p = at-part b (c .before .before .before .before .before .before .before .before .before .before .before .before .before .before .loop .right) (w .there) in
-          absorbing-next w (q .result) (q .ensures x (w .there)) (sym (c .before .before .before .before .before .before .before .before .is-overlap .ensures) ∙ c .before .before .before .before .before .before .before .if1 .left) (c .before .before .before .before .before .if2 .left) (c .term-len .result) (e .result) (e .last .0) (c .term-len .ensures Mode.pattern p) (e .ensures p),
+          let f = c .before .before .follow .ensures (s .args .rest) (s .args .fuel) (d .fuel-in .result) (s .args .swapped) x y (k .0) in
+          record { text = f .text; emitted = f .emitted; first = x; second = f .there; is = f .is; further = omega (arith, f .further); less = fails-less (k .0 .fails) },
+      (record { way = k .1; is = omega (arith, z) }, kept-same _ (s .args .room .now)),
     )
 
 pub absorb-spec : {M : Type 1} → statement M
 absorb-spec =
     tie.close
-    (tie.spec
-    Inv-loop
-    μ-loop
-    loop-holds
-    asked-requires
-    sub-x
-    part-x-start
-    part-x-end
-    is-overlap-requires
-    same-length
-    same-length-2
-    returns
-    shared-slice-read-if2
-    same-length-3
-    same-length-4
-    returns-2
-    put-free-term-requires
-    term-len-requires
-    add-right
-    loop-less
-    loop-again)
+    (tie.spec ask-requires same-length same-length-2 returns add-place-in place-in-requires add-fuel-in fuel-in-requires follow-requires add-t21 sub-t26 same-length-3 same-length-4 returns-2)

@@ -1,7 +1,7 @@
 -- `expression::walk::advance`, as a member of its cycle of calls: a split, or two heads.
 use Prim.Native.Nat.{ℕ, _+_, _<_, _≤_}
 use native.Mathlib.Omega.{arith}
-use mathlib.Core.Path.{_≡_, sym, ap, _∙_}
+use mathlib.Core.Path.{_≡_, refl, sym, ap, _∙_}
 use mathlib.Core.Bool.{not}
 use lib.ListN.{length}
 use borrow.Author.Needs.{needs}
@@ -9,9 +9,12 @@ use Rattle.program.specs.Limits.{Mode}
 use Rattle.image.specs.Parts.{TermsAt, tail}
 use Rattle.image.proofs.Readings.{result-at}
 use Rattle.rows.proofs.Readings.{inside, at-part, after-term, mark-in, next-fits}
+use Rattle.overlap.specs.Way.{Next}
+use Rattle.overlap.proofs.Ways.{next-place}
 use Rattle.expression.specs.Walk.{headBytes, meetBytes}
 use Rattle.expression.proofs.Freeing.{front-fits}
 use Rattle.expression.proofs.Walking.{stepped-as}
+use Rattle.expression.proofs.Leading.{ahead-first, ahead-second, way-at-heads}
 use Rattle.expression.proofs.Advancing.{left-splits, left-head, right-splits, right-head, heads-first}
 use Rattle.expression.proofs.walk.advance.Reads as advance
 use Rattle.expression.proofs.walk.+advance+meet+put_heads.Lts-advance as lts
@@ -38,8 +41,8 @@ module _ (t : ℕ) where
       let f = next-fits b (c .before .before .before .before .before .args .left) x (λ e. c .before .before .before .before .before .pre .1 .1 (sym (mark-in b (c .before .before .before .before .before .args .left)) ∙ e)) (omega (arith, inside b (c .before .before .before .before .before .args .left) (c .before .before .before .before .before .pre .1 .0 .first))) (c .term-len .result) (c .term-len .ensures Mode.pattern x) in
       (f .0, f .1)
 
-  pub add-after-left : lts.Need-add-after-left (claims t) (at t) advance.Post
-  add-after-left c = omega (arith, first-fits c .0)
+  pub add-i : lts.Need-add-i (claims t) (at t) advance.Post
+  add-i c = omega (arith, first-fits c .0)
 
   pub sub-term-len-2 : lts.Need-sub-term-len-2 (claims t) (at t) advance.Post
   sub-term-len-2 c = omega (arith, inside (c .before .before .before .before .before .args .b .now) (c .before .before .before .before .before .args .right) (c .before .before .before .before .before .pre .1 .0 .second))
@@ -60,11 +63,18 @@ module _ (t : ℕ) where
       let f = next-fits b (c .before .before .before .before .before .before .before .args .right) x (λ e. c .before .before .before .before .before .before .before .pre .1 .2 (sym (mark-in b (c .before .before .before .before .before .before .before .args .right)) ∙ e)) (omega (arith, inside b (c .before .before .before .before .before .before .before .args .right) (c .before .before .before .before .before .before .before .pre .1 .0 .second))) (c .term-len2 .result) (c .term-len2 .ensures Mode.pattern x) in
       (f .0, f .1)
 
-  pub add-after-right : lts.Need-add-after-right (claims t) (at t) advance.Post
-  add-after-right c = omega (arith, second-fits c .0)
+  pub add-j : lts.Need-add-j (claims t) (at t) advance.Post
+  add-j c = omega (arith, second-fits c .0)
 
   pub shared-slice-read-if1 : lts.Need-shared-slice-read-if1 (claims t) (at t) advance.Post
   shared-slice-read-if1 c = omega (arith, inside (c .before .before .before .before .before .before .before .before .args .b .now) (c .before .before .before .before .before .before .before .before .args .left) (c .before .before .before .before .before .before .before .before .pre .1 .0 .first))
+
+  -- The places behind the first terms.
+  next-left : (c : lts.After-term-len2 (claims t) (at t) advance.Post) → let s = c .before .before .before .before .before .before .before in Next (s .args .b .now) (s .args .left) (s .args .left + c .before .before .term-len .result)
+  next-left c = let s = c .before .before .before .before .before .before .before in next-place (s .args .b .now) (s .args .left) (c .before .before .term-len .result) (s .pre .1 .0 .first) (first-fits (c .before .before) .0) (c .before .before .term-len .ensures Mode.pattern (at-part (s .args .b .now) (s .args .left) (s .pre .1 .0 .first)))
+
+  next-right : (c : lts.After-term-len2 (claims t) (at t) advance.Post) → let s = c .before .before .before .before .before .before .before in Next (s .args .b .now) (s .args .right) (s .args .right + c .term-len2 .result)
+  next-right c = let s = c .before .before .before .before .before .before .before in next-place (s .args .b .now) (s .args .right) (c .term-len2 .result) (s .pre .1 .0 .second) (second-fits c .0) (c .term-len2 .ensures Mode.pattern (at-part (s .args .b .now) (s .args .right) (s .pre .1 .0 .second)))
 
   pub absorb-requires : lts.Need-absorb-requires (claims t) (at t) advance.Post
   absorb-requires c κs =
@@ -78,6 +88,8 @@ module _ (t : ℕ) where
         },
         p .3,
         omega (arith, p .4),
+        ahead-first b (c .before .before .before .before .before .before .before .before .before .before .before .args .room .now) (c .before .before .before .before .before .before .before .before .before .before .before .args .next) (c .before .before .before .before .before .before .before .before .before .before .before .args .known) (c .before .before .before .before .before .before .before .before .before .before .before .args .fuel) (c .before .before .before .before .before .before .before .before .before .before .before .args .left) (c .before .before .before .before .before .before .before .before .before .before .before .args .right) _ (p .5) (c .before .before .if1 .taken) (next-left (c .before .before .before .before)),
+        p .6,
       )
 
   pub same-length : lts.Need-same-length (claims t) (at t) advance.Post
@@ -87,10 +99,13 @@ module _ (t : ℕ) where
   same-length-2 c = search needs
 
   pub returns : lts.Need-returns (claims t) (at t) advance.Post
-  returns c = λ x y.
-      let b = c .before .before .before .before .before .before .before .before .before .before .before .before .before .before .before .before .args .b .now in
-      let i = after-term b (c .before .before .before .before .before .before .before .before .before .before .before .before .before .before .before .before .args .left) (c .before .before .before .before .before .before .before .before .before .before .before .term-len .result) x (c .before .before .before .before .before .before .before .before .before .before .before .term-len .ensures Mode.pattern (at-part b (c .before .before .before .before .before .before .before .before .before .before .before .before .before .before .before .before .args .left) x)) in
-      stepped-as (left-splits b (c .before .before .before .before .before .before .before .before .before .before .before .before .before .before .before .before .args .left) (c .before .before .before .before .before .before .before .before .before .before .before .before .before .before .before .before .args .right) (c .before .before .before .before .before .before .before .before .before .before .before .before .before .before .before .before .args .swapped) (c .before .before .before .before .before .before .before .before .before .before .before .before .before .before .before .before .args .fuel) x y (c .before .before .before .before .before .before .before .if1 .taken) (c .before .before .before .before .before .before .before .before .before .before .before .before .before .before .before .before .pre .1 .2)) (omega arith) (c .before .before .before .before .absorb .ensures i y)
+  returns c = (
+    λ x y.
+        let b = c .before .before .before .before .before .before .before .before .before .before .before .before .before .before .before .before .args .b .now in
+        let i = after-term b (c .before .before .before .before .before .before .before .before .before .before .before .before .before .before .before .before .args .left) (c .before .before .before .before .before .before .before .before .before .before .before .term-len .result) x (c .before .before .before .before .before .before .before .before .before .before .before .term-len .ensures Mode.pattern (at-part b (c .before .before .before .before .before .before .before .before .before .before .before .before .before .before .before .before .args .left) x)) in
+        stepped-as (left-splits b (c .before .before .before .before .before .before .before .before .before .before .before .before .before .before .before .before .args .left) (c .before .before .before .before .before .before .before .before .before .before .before .before .before .before .before .before .args .right) (c .before .before .before .before .before .before .before .before .before .before .before .before .before .before .before .before .args .swapped) (c .before .before .before .before .before .before .before .before .before .before .before .before .before .before .before .before .args .fuel) x y (c .before .before .before .before .before .before .before .if1 .taken) (c .before .before .before .before .before .before .before .before .before .before .before .before .before .before .before .before .pre .1 .2)) (omega arith) (c .before .before .before .before .absorb .ensures .0 i y),
+    c .before .before .before .before .absorb .ensures .1,
+  )
 
   pub shared-slice-read-if2 : lts.Need-shared-slice-read-if2 (claims t) (at t) advance.Post
   shared-slice-read-if2 c = omega (arith, inside (c .before .before .before .before .before .before .before .before .before .before .args .b .now) (c .before .before .before .before .before .before .before .before .before .before .args .right) (c .before .before .before .before .before .before .before .before .before .before .pre .1 .0 .second))
@@ -107,6 +122,8 @@ module _ (t : ℕ) where
         },
         p .3,
         omega (arith, p .4),
+        ahead-second b (c .before .before .before .before .before .before .before .before .before .before .before .before .before .args .room .now) (c .before .before .before .before .before .before .before .before .before .before .before .before .before .args .next) (c .before .before .before .before .before .before .before .before .before .before .before .before .before .args .known) (c .before .before .before .before .before .before .before .before .before .before .before .before .before .args .fuel) (c .before .before .before .before .before .before .before .before .before .before .before .before .before .args .left) (c .before .before .before .before .before .before .before .before .before .before .before .before .before .args .right) _ (p .5) (c .before .before .before .before .if1 .left) (c .before .before .if2 .taken) (next-right (c .before .before .before .before .before .before)),
+        p .6,
       )
 
   pub same-length-3 : lts.Need-same-length-3 (claims t) (at t) advance.Post
@@ -116,10 +133,19 @@ module _ (t : ℕ) where
   same-length-4 c = search needs
 
   pub returns-2 : lts.Need-returns-2 (claims t) (at t) advance.Post
-  returns-2 c = λ x y.
-      let b = c .before .before .before .before .before .before .before .before .before .before .before .before .before .before .before .before .before .before .args .b .now in
-      let j = after-term b (c .before .before .before .before .before .before .before .before .before .before .before .before .before .before .before .before .before .before .args .right) (c .before .before .before .before .before .before .before .before .before .before .before .term-len2 .result) y (c .before .before .before .before .before .before .before .before .before .before .before .term-len2 .ensures Mode.pattern (at-part b (c .before .before .before .before .before .before .before .before .before .before .before .before .before .before .before .before .before .before .args .right) y)) in
-      stepped-as (right-splits b (c .before .before .before .before .before .before .before .before .before .before .before .before .before .before .before .before .before .before .args .left) (c .before .before .before .before .before .before .before .before .before .before .before .before .before .before .before .before .before .before .args .right) (c .before .before .before .before .before .before .before .before .before .before .before .before .before .before .before .before .before .before .args .swapped) (c .before .before .before .before .before .before .before .before .before .before .before .before .before .before .before .before .before .before .args .fuel) x y (c .before .before .before .before .before .before .before .before .before .before .before .before .before .before .before .before .before .before .pre .1 .1) (c .before .before .before .before .before .before .before .before .before .if1 .left) (c .before .before .before .before .before .before .before .if2 .taken)) (omega arith) (c .before .before .before .before .absorb2 .ensures j x)
+  returns-2 c = (
+    λ x y.
+        let b = c .before .before .before .before .before .before .before .before .before .before .before .before .before .before .before .before .before .before .args .b .now in
+        let j = after-term b (c .before .before .before .before .before .before .before .before .before .before .before .before .before .before .before .before .before .before .args .right) (c .before .before .before .before .before .before .before .before .before .before .before .term-len2 .result) y (c .before .before .before .before .before .before .before .before .before .before .before .term-len2 .ensures Mode.pattern (at-part b (c .before .before .before .before .before .before .before .before .before .before .before .before .before .before .before .before .before .before .args .right) y)) in
+        stepped-as (right-splits b (c .before .before .before .before .before .before .before .before .before .before .before .before .before .before .before .before .before .before .args .left) (c .before .before .before .before .before .before .before .before .before .before .before .before .before .before .before .before .before .before .args .right) (c .before .before .before .before .before .before .before .before .before .before .before .before .before .before .before .before .before .before .args .swapped) (c .before .before .before .before .before .before .before .before .before .before .before .before .before .before .before .before .before .before .args .fuel) x y (c .before .before .before .before .before .before .before .before .before .before .before .before .before .before .before .before .before .before .pre .1 .1) (c .before .before .before .before .before .before .before .before .before .if1 .left) (c .before .before .before .before .before .before .before .if2 .taken)) (omega arith) (c .before .before .before .before .absorb2 .ensures .0 j x),
+    c .before .before .before .before .absorb2 .ensures .1,
+  )
+
+  pub mul-put-heads : lts.Need-mul-put-heads (claims t) (at t) advance.Post
+  mul-put-heads c = omega (arith, c .before .before .before .before .before .before .before .before .before .before .before .before .pre .1 .6)
+
+  pub add-put-heads : lts.Need-add-put-heads (claims t) (at t) advance.Post
+  add-put-heads c = omega (arith, c .before .before .before .before .before .before .before .before .before .before .before .before .pre .1 .6)
 
   pub put-heads-requires : lts.Need-put-heads-requires (claims t) (at t) advance.Post
   put-heads-requires c κs =
@@ -137,6 +163,7 @@ module _ (t : ℕ) where
             short = front-fits (c .before .before .before .before .before .before .before .before .before .before .before .before .before .args .at) (headBytes (c .before .before .before .before .before .before .before .before .before .before .before .before .before .args .swapped) (u .head) (v .head)) (meetBytes (c .before .before .before .before .before .before .before .before .before .before .before .before .before .args .swapped) (c .before .before .before .before .before .before .before .before .before .before .before .before .before .args .fuel) (tail (x .terms)) (tail (y .terms))) (heads-first b (c .before .before .before .before .before .before .before .before .before .before .before .before .before .args .left) (c .before .before .before .before .before .before .before .before .before .before .before .before .before .args .right) (c .before .before .before .before .before .before .before .before .before .before .before .before .before .args .swapped) (c .before .before .before .before .before .before .before .before .before .before .before .before .before .args .fuel) x y (p .1) (c .before .before .before .before .if1 .left) (p .2) (c .before .before .if2 .left)) (p .0 .short);
           },
           p .3,
+          p .6,
         ),
       )
 
@@ -147,17 +174,26 @@ module _ (t : ℕ) where
   same-length-6 c = search needs
 
   pub returns-3 : lts.Need-returns-3 (claims t) (at t) advance.Post
-  returns-3 c = λ x y.
-      let b = c .before .before .before .before .before .before .before .before .before .before .before .before .before .before .before .before .before .before .args .b .now in
-      let p = c .before .before .before .before .before .before .before .before .before .before .before .before .before .before .before .before .before .before .pre .1 in
-      let u = left-head b (c .before .before .before .before .before .before .before .before .before .before .before .before .before .before .before .before .before .before .args .left) (c .before .before .before .before .before .before .before .before .before .before .before .before .before .before .before .before .before .before .args .right) (c .before .before .before .before .before .before .before .before .before .before .before .before .before .before .before .before .before .before .args .swapped) (c .before .before .before .before .before .before .before .before .before .before .before .before .before .before .before .before .before .before .args .fuel) x y (p .1) (c .before .before .before .before .before .before .before .before .before .if1 .left) in
-      let v = right-head b (c .before .before .before .before .before .before .before .before .before .before .before .before .before .before .before .before .before .before .args .left) (c .before .before .before .before .before .before .before .before .before .before .before .before .before .before .before .before .before .before .args .right) (c .before .before .before .before .before .before .before .before .before .before .before .before .before .before .before .before .before .before .args .swapped) (c .before .before .before .before .before .before .before .before .before .before .before .before .before .before .before .before .before .before .args .fuel) x y (p .1) (c .before .before .before .before .before .before .before .before .before .if1 .left) (p .2) (c .before .before .before .before .before .before .before .if2 .left) in
+  returns-3 c = (
+    λ x y.
+        let b = c .before .before .before .before .before .before .before .before .before .before .before .before .before .before .before .before .before .before .args .b .now in
+        let p = c .before .before .before .before .before .before .before .before .before .before .before .before .before .before .before .before .before .before .pre .1 in
+        let u = left-head b (c .before .before .before .before .before .before .before .before .before .before .before .before .before .before .before .before .before .before .args .left) (c .before .before .before .before .before .before .before .before .before .before .before .before .before .before .before .before .before .before .args .right) (c .before .before .before .before .before .before .before .before .before .before .before .before .before .before .before .before .before .before .args .swapped) (c .before .before .before .before .before .before .before .before .before .before .before .before .before .before .before .before .before .before .args .fuel) x y (p .1) (c .before .before .before .before .before .before .before .before .before .if1 .left) in
+        let v = right-head b (c .before .before .before .before .before .before .before .before .before .before .before .before .before .before .before .before .before .before .args .left) (c .before .before .before .before .before .before .before .before .before .before .before .before .before .before .before .before .before .before .args .right) (c .before .before .before .before .before .before .before .before .before .before .before .before .before .before .before .before .before .before .args .swapped) (c .before .before .before .before .before .before .before .before .before .before .before .before .before .before .before .before .before .before .args .fuel) x y (p .1) (c .before .before .before .before .before .before .before .before .before .if1 .left) (p .2) (c .before .before .before .before .before .before .before .if2 .left) in
+        record {
+          text = headBytes (c .before .before .before .before .before .before .before .before .before .before .before .before .before .before .before .before .before .before .args .swapped) (u .head) (v .head);
+          emitted = c .before .before .before .before .put-heads .ensures .0 u v;
+          first = after-term b (c .before .before .before .before .before .before .before .before .before .before .before .before .before .before .before .before .before .before .args .left) (c .before .before .before .before .before .before .before .before .before .before .before .before .before .term-len .result) x (c .before .before .before .before .before .before .before .before .before .before .before .before .before .term-len .ensures Mode.pattern (at-part b (c .before .before .before .before .before .before .before .before .before .before .before .before .before .before .before .before .before .before .args .left) x));
+          second = after-term b (c .before .before .before .before .before .before .before .before .before .before .before .before .before .before .before .before .before .before .args .right) (c .before .before .before .before .before .before .before .before .before .before .before .term-len2 .result) y (c .before .before .before .before .before .before .before .before .before .before .before .term-len2 .ensures Mode.pattern (at-part b (c .before .before .before .before .before .before .before .before .before .before .before .before .before .before .before .before .before .before .args .right) y));
+          is = heads-first b (c .before .before .before .before .before .before .before .before .before .before .before .before .before .before .before .before .before .before .args .left) (c .before .before .before .before .before .before .before .before .before .before .before .before .before .before .before .before .before .before .args .right) (c .before .before .before .before .before .before .before .before .before .before .before .before .before .before .before .before .before .before .args .swapped) (c .before .before .before .before .before .before .before .before .before .before .before .before .before .before .before .before .before .before .args .fuel) x y (p .1) (c .before .before .before .before .before .before .before .before .before .if1 .left) (p .2) (c .before .before .before .before .before .before .before .if2 .left);
+          further = omega arith;
+          less = omega arith;
+        },
+    (
       record {
-        text = headBytes (c .before .before .before .before .before .before .before .before .before .before .before .before .before .before .before .before .before .before .args .swapped) (u .head) (v .head);
-        emitted = c .before .before .before .before .put-heads .ensures u v;
-        first = after-term b (c .before .before .before .before .before .before .before .before .before .before .before .before .before .before .before .before .before .before .args .left) (c .before .before .before .before .before .before .before .before .before .before .before .before .before .term-len .result) x (c .before .before .before .before .before .before .before .before .before .before .before .before .before .term-len .ensures Mode.pattern (at-part b (c .before .before .before .before .before .before .before .before .before .before .before .before .before .before .before .before .before .before .args .left) x));
-        second = after-term b (c .before .before .before .before .before .before .before .before .before .before .before .before .before .before .before .before .before .before .args .right) (c .before .before .before .before .before .before .before .before .before .before .before .term-len2 .result) y (c .before .before .before .before .before .before .before .before .before .before .before .term-len2 .ensures Mode.pattern (at-part b (c .before .before .before .before .before .before .before .before .before .before .before .before .before .before .before .before .before .before .args .right) y));
-        is = heads-first b (c .before .before .before .before .before .before .before .before .before .before .before .before .before .before .before .before .before .before .args .left) (c .before .before .before .before .before .before .before .before .before .before .before .before .before .before .before .before .before .before .args .right) (c .before .before .before .before .before .before .before .before .before .before .before .before .before .before .before .before .before .before .args .swapped) (c .before .before .before .before .before .before .before .before .before .before .before .before .before .before .before .before .before .before .args .fuel) x y (p .1) (c .before .before .before .before .before .before .before .before .before .if1 .left) (p .2) (c .before .before .before .before .before .before .before .if2 .left);
-        further = omega arith;
-        less = omega arith;
-      }
+        way = way-at-heads (c .before .before .before .before .before .before .before .before .before .before .before .before .before .before .before .before .before .before .args .fuel) (c .before .before .before .before .before .before .before .before .before .before .before .before .before .before .before .before .before .before .pre .1 .5) refl (c .before .before .before .before .before .before .before .before .before .if1 .left) (c .before .before .before .before .before .before .before .if2 .left) (next-left (c .before .before .before .before .before .before .before .before .before .before .before)) (next-right (c .before .before .before .before .before .before .before .before .before .before .before));
+        is = refl;
+      },
+      c .before .before .before .before .put-heads .ensures .1,
+    ),
+  )

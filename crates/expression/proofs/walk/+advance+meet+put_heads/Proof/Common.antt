@@ -5,6 +5,7 @@ use borrow.Fn.Kinds.{In}
 use borrow.Fn.PlainCycle.{Measures, is, falls, and}
 use Rattle.image.proofs.part.term_len.Reads as term-len-reads
 use Rattle.text.proofs.emit.put_byte.Reads as put-byte-reads
+use Rattle.overlap.proofs.way.find_way.Reads as find-way-reads
 use Rattle.expression.proofs.records.put_mark.Reads as put-mark-reads
 use Rattle.expression.proofs.walk.absorb.Reads as absorb-reads
 use Rattle.expression.proofs.walk.put_head.Reads as put-head-reads
@@ -50,7 +51,7 @@ abbrev pub advance-claims : ℕ → advance-lts.Claims
 advance-claims t = (term-len-reads.Asked, term-len-reads.Learnt, absorb-reads.Asked, absorb-reads.Learnt, put-heads-below t, put-heads.Post)
 
 abbrev pub meet-claims : ℕ → meet-lts.Claims
-meet-claims t = (advance-below t, advance.Post)
+meet-claims t = (find-way-reads.Asked, find-way-reads.Learnt, advance-below t, advance.Post)
 
 abbrev pub put-heads-claims : ℕ → put-heads-lts.Claims
 put-heads-claims t = (put-mark-reads.Asked, put-mark-reads.Learnt, meet-below t, meet.Post, put-byte-reads.Asked, put-byte-reads.Learnt, put-head-reads.Asked, put-head-reads.Learnt)

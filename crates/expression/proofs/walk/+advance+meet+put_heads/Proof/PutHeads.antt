@@ -10,11 +10,12 @@ use Rattle.program.specs.Bytes.{put32, putSpan}
 use Rattle.patterns.specs.Marks.{zeroSpan}
 use Rattle.patterns.specs.Search.{start}
 use Rattle.rows.proofs.Readings.{part, mark-in}
+use Rattle.rows.proofs.Places.{kept-same}
 use Rattle.rows.proofs.Heads.{bracket-at}
 use Rattle.text.proofs.Fill.{emitted-same, emitted-append}
 use Rattle.expression.specs.Walk.{meetBytes}
 use Rattle.expression.proofs.Heads.{both-brackets, both-brackets-long}
-use Rattle.expression.proofs.Advancing.{mark-at, inner-at, head-part, head-inside}
+use Rattle.overlap.proofs.Ways.{mark-at, inner-at, head-part, head-inside}
 use Rattle.expression.proofs.walk.put_heads.Reads as put-heads
 use Rattle.expression.proofs.walk.+advance+meet+put_heads.Lts-put_heads as lts
 use Rattle.expression.proofs.walk.+advance+meet+put_heads.Proof.Common.{put-heads-at as at, put-heads-claims as claims}
@@ -54,6 +55,7 @@ module _ (t : ℕ) where
           },
           c .before .before .before .before .before .before .before .before .before .before .before .before .before .pre .1 .1,
           omega arith,
+          c .before .before .before .before .before .before .before .before .before .before .before .before .before .pre .1 .2,
         ),
       )
 
@@ -64,7 +66,7 @@ module _ (t : ℕ) where
       let p = c .before .before .before .before .before .before .before .before .before .before .before .before .before .before .before .before .before .before .before .pre .1 .0 in
       let k = bracket-at (p .first) (mark-at b (c .before .before .before .before .before .before .before .before .before .before .before .before .before .before .before .before .before .before .before .args .left) ∙ c .before .before .before .before .before .before .before .before .before .before .before .before .before .before .if1 .taken) in
       let l = bracket-at (p .second) (mark-at b (c .before .before .before .before .before .before .before .before .before .before .before .before .before .before .before .before .before .before .before .args .right) ∙ c .before .before .before .before .before .before .before .before .before .before .before .before .if2 .taken) in
-      omega (arith, c .before .before .before .before .before .meet .ensures (inner-at b (c .before .before .before .before .before .before .before .before .before .before .before .before .before .before .before .before .before .before .before .args .left) k) (inner-at b (c .before .before .before .before .before .before .before .before .before .before .before .before .before .before .before .before .before .before .before .args .right) l) .after, c .before .before .before .before .before .before .before .before .before .before .put-mark .ensures .after, both-brackets-long (c .before .before .before .before .before .before .before .before .before .before .before .before .before .before .before .before .before .before .before .args .swapped) (p .first) (p .second) k l, p .short)
+      omega (arith, c .before .before .before .before .before .meet .ensures .0 (inner-at b (c .before .before .before .before .before .before .before .before .before .before .before .before .before .before .before .before .before .before .before .args .left) k) (inner-at b (c .before .before .before .before .before .before .before .before .before .before .before .before .before .before .before .before .before .before .before .args .right) l) .after, c .before .before .before .before .before .before .before .before .before .before .put-mark .ensures .after, both-brackets-long (c .before .before .before .before .before .before .before .before .before .before .before .before .before .before .before .before .before .before .before .args .swapped) (p .first) (p .second) k l, p .short)
 
   pub same-length : lts.Need-same-length (claims t) (at t) put-heads.Post
   same-length c = search needs
@@ -73,13 +75,16 @@ module _ (t : ℕ) where
   same-length-2 c = search needs
 
   pub returns : lts.Need-returns (claims t) (at t) put-heads.Post
-  returns c = λ x y.
-      let b = c .before .before .before .before .before .before .before .before .before .before .before .before .before .before .before .before .before .before .before .before .before .before .args .b .now in
-      let k = bracket-at x (mark-at b (c .before .before .before .before .before .before .before .before .before .before .before .before .before .before .before .before .before .before .before .before .before .before .args .left) ∙ c .before .before .before .before .before .before .before .before .before .before .before .before .before .before .before .before .before .if1 .taken) in
-      let l = bracket-at y (mark-at b (c .before .before .before .before .before .before .before .before .before .before .before .before .before .before .before .before .before .before .before .before .before .before .args .right) ∙ c .before .before .before .before .before .before .before .before .before .before .before .before .before .before .before .if2 .taken) in
-      let i = meetBytes (c .before .before .before .before .before .before .before .before .before .before .before .before .before .before .before .before .before .before .before .before .before .before .args .swapped) start (k .inner .terms) (l .inner .terms) in
-      emitted-same (both-brackets (c .before .before .before .before .before .before .before .before .before .before .before .before .before .before .before .before .before .before .before .before .before .before .args .swapped) x y k l)
-      (emitted-append (7 ∷ putSpan zeroSpan []) (i ++ (15 ∷ [])) (c .before .before .before .before .before .before .before .before .before .before .before .before .before .put-mark .ensures) (emitted-append i (15 ∷ []) (c .before .before .before .before .before .before .before .before .meet .ensures (inner-at b (c .before .before .before .before .before .before .before .before .before .before .before .before .before .before .before .before .before .before .before .before .before .before .args .left) k) (inner-at b (c .before .before .before .before .before .before .before .before .before .before .before .before .before .before .before .before .before .before .before .before .before .before .args .right) l)) (c .before .before .put-byte .ensures)))
+  returns c = (
+    λ x y.
+        let b = c .before .before .before .before .before .before .before .before .before .before .before .before .before .before .before .before .before .before .before .before .before .before .args .b .now in
+        let k = bracket-at x (mark-at b (c .before .before .before .before .before .before .before .before .before .before .before .before .before .before .before .before .before .before .before .before .before .before .args .left) ∙ c .before .before .before .before .before .before .before .before .before .before .before .before .before .before .before .before .before .if1 .taken) in
+        let l = bracket-at y (mark-at b (c .before .before .before .before .before .before .before .before .before .before .before .before .before .before .before .before .before .before .before .before .before .before .args .right) ∙ c .before .before .before .before .before .before .before .before .before .before .before .before .before .before .before .if2 .taken) in
+        let i = meetBytes (c .before .before .before .before .before .before .before .before .before .before .before .before .before .before .before .before .before .before .before .before .before .before .args .swapped) start (k .inner .terms) (l .inner .terms) in
+        emitted-same (both-brackets (c .before .before .before .before .before .before .before .before .before .before .before .before .before .before .before .before .before .before .before .before .before .before .args .swapped) x y k l)
+        (emitted-append (7 ∷ putSpan zeroSpan []) (i ++ (15 ∷ [])) (c .before .before .before .before .before .before .before .before .before .before .before .before .before .put-mark .ensures) (emitted-append i (15 ∷ []) (c .before .before .before .before .before .before .before .before .meet .ensures .0 (inner-at b (c .before .before .before .before .before .before .before .before .before .before .before .before .before .before .before .before .before .before .before .before .before .before .args .left) k) (inner-at b (c .before .before .before .before .before .before .before .before .before .before .before .before .before .before .before .before .before .before .before .before .before .before .args .right) l)) (c .before .before .put-byte .ensures))),
+    c .before .before .before .before .before .before .before .before .meet .ensures .1,
+  )
 
   pub sub-put-head : lts.Need-sub-put-head (claims t) (at t) put-heads.Post
   sub-put-head c = omega (arith, head-inside (c .before .before .before .before .before .before .args .b .now) (c .before .before .before .before .before .before .args .left) (c .before .before .before .before .before .before .pre .1 .0 .first))
@@ -111,4 +116,4 @@ module _ (t : ℕ) where
   same-length-3 c = search needs
 
   pub returns-2 : lts.Need-returns-2 (claims t) (at t) put-heads.Post
-  returns-2 c = λ x y. c .before .before .put-head .ensures (head-part (c .before .before .before .before .before .before .before .before .before .before .before .args .b .now) (c .before .before .before .before .before .before .before .before .before .before .before .args .left) x) (head-part (c .before .before .before .before .before .before .before .before .before .before .before .args .b .now) (c .before .before .before .before .before .before .before .before .before .before .before .args .right) y)
+  returns-2 c = (λ x y. c .before .before .put-head .ensures (head-part (c .before .before .before .before .before .before .before .before .before .before .before .args .b .now) (c .before .before .before .before .before .before .before .before .before .before .before .args .left) x) (head-part (c .before .before .before .before .before .before .before .before .before .before .before .args .b .now) (c .before .before .before .before .before .before .before .before .before .before .before .args .right) y), kept-same _ (c .before .before .before .before .before .before .before .before .before .before .before .args .room .now))

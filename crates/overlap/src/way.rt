@@ -1,6 +1,7 @@
-// The way to the first success of a search: one level of brackets with a stack of height splits in the room, three entries each,
+// The way to the first success of a search: one level of brackets with a stack of open splits in the room, three entries each,
 // what follows the `e.` variable, the end in turn and its fuel. It looks for a success and nothing else: where a bracket pair is
-// Unknown, fuel runs out or the room is too short it finds no way.
+// Unknown, fuel runs out or the room is too short it finds no way. It makes the search's entries, 4,096 at most, and asks one
+// bracket pair at each at most.
 use crate::OVERLAP_FUEL;
 use crate::is_overlap;
 use crate::overlap_behind;
@@ -12,7 +13,7 @@ ghost use mathlib.Core.Path.{_≡_};
 ghost use mathlib.Core.Bool.{true, false};
 ghost use mathlib.Core.List.{[]};
 ghost use Prim.Native.Nat.{ℕ, _+_, _*_, _<_, _≤_};
-ghost use lib.ListN.{length, getD, drop, set};
+ghost use lib.ListN.{length, getD, drop};
 ghost use Rattle.program.specs.Limits.{Mode};
 ghost use Rattle.image.specs.Parts.{TermsAt};
 ghost use Rattle.patterns.specs.Search.{overlapOfTerms, sequence};
@@ -35,7 +36,7 @@ pub enum Lead {
     Split(Opening),
 }
 
-// The search after a turn: whether it goes on, the patterns in turn with their fuel, and how many splits are height.
+// The search after a turn: whether it goes on, the patterns in turn with their fuel, and how many splits are open.
 pub struct Turn {
     pub going: bool,
     pub left: usize,
@@ -160,6 +161,7 @@ pub fn fuel_in(room: &[u32], k: usize) -> u32
     room[k]
 }
 
+// An entry as a place; a call of its own asks for no bound.
 fn wide(n: u32) -> usize
     ensures { λ r. ⌜ r ≡ n ⌝ }
 {

@@ -1,12 +1,13 @@
 -- Whether an expression begins with terms equal to another's, told on trees and token by token.
 use Prim.Native.Nat.{ℕ}
+use native.Mathlib.Omega.{arith}
 use mathlib.Core.Path.{_≡_, refl, sym, ap, _∙_}
 use mathlib.Core.Bool.{Bool, true, false, _&&_, cond}
 use mathlib.Core.List.{List, [], _∷_}
 use mathlib.Core.Option.{Option, none, some}
 use Rattle.program.specs.Syntax.{Symbol}
 use Rattle.patterns.specs.Symbols.{sameSymbol}
-use Rattle.patterns.specs.Expression.{Expression, void, atom, group}
+use Rattle.patterns.specs.Expression.{Expression, void, atom, group, _⧺_}
 use Rattle.meaning.specs.Match.{sameExpression}
 use Rattle.meaning.specs.Inputs.{Token}
 use Rattle.meaning.proofs.Inputs.{tokensOf}
@@ -45,6 +46,33 @@ same-is (atom x v) (group j w) = refl
 same-is (group i v) void = refl
 same-is (group i v) (atom y w) = refl
 same-is (group i v) (group j w) = and-left (sameExpression i j) (restAfter v w) (sameExpression v w) (same-is v w)
+
+-- What is left stands behind a front that is the same.
+pub record FrontIs (u w r : Expression) : Type 0 where
+  pub front : Expression
+  pub whole : w ≡ front ⧺ r
+  pub same : sameExpression u front ≡ true
+
+both : {a b : Bool} → a ≡ true → b ≡ true → (a && b) ≡ true
+both {a} {b} h k = ap (λ (t : Bool). t && b) h ∙ k
+
+pub front-is : (u w r : Expression) → restAfter u w ≡ some r → FrontIs u w r
+unfolding restAfter sameExpression _⧺_
+front-is void w r e = record { front = void; whole = cc; same = refl }
+front-is (atom x u) void r e = absurd (let z : _≡_ {A = ℕ} 0 1 = cc in omega arith)
+front-is (atom x u) (atom y w) r e = by (sameSymbol x y) refl (front-is u w r) e
+  where
+    by : (t : Bool) → sameSymbol x y ≡ t → (restAfter u w ≡ some r → FrontIs u w r) → cond t (restAfter u w) none ≡ some r → FrontIs (atom x u) (atom y w) r
+    by true f h e = let k = h e in record { front = atom y (k .front); whole = ap (atom y) (k .whole); same = both f (k .same) }
+    by false f h e = absurd (let z : _≡_ {A = ℕ} 0 1 = cc in omega arith)
+front-is (atom x u) (group j w) r e = absurd (let z : _≡_ {A = ℕ} 0 1 = cc in omega arith)
+front-is (group i u) void r e = absurd (let z : _≡_ {A = ℕ} 0 1 = cc in omega arith)
+front-is (group i u) (atom y w) r e = absurd (let z : _≡_ {A = ℕ} 0 1 = cc in omega arith)
+front-is (group i u) (group j w) r e = by (sameExpression i j) refl (front-is u w r) e
+  where
+    by : (t : Bool) → sameExpression i j ≡ t → (restAfter u w ≡ some r → FrontIs u w r) → cond t (restAfter u w) none ≡ some r → FrontIs (group i u) (group j w) r
+    by true f h e = let k = h e in record { front = group j (k .front); whole = ap (group j) (k .whole); same = both f (k .same) }
+    by false f h e = absurd (let z : _≡_ {A = ℕ} 0 1 = cc in omega arith)
 
 -- ---- token by token
 

@@ -159,7 +159,7 @@ unfolding firstToken
 first-closing k = refl
 
 -- As many tokens as there are bytes are enough, and more change nothing.
-abbrev Reads : List ℕ → List Token → Type 0
+abbrev pub Reads : List ℕ → List Token → Type 0
 Reads s l = (n : ℕ) → length s ≤ n → tokensUpTo n s ≡ some l
 
 reads-nothing : Reads [] []
@@ -182,7 +182,7 @@ longer-symbol (character c) k = omega arith
 longer-symbol (identifier n) k = let h = long-behind n k in omega (arith, h)
 longer-symbol (number n) k = let h = long-behind n k in omega (arith, h)
 
-reads-expression : (v : Expression) → ValidExpression v → (k : List ℕ) (l : List Token) → Reads k l → Reads (putExpression v k) (tokensOf v l)
+pub reads-expression : (v : Expression) → ValidExpression v → (k : List ℕ) (l : List Token) → Reads k l → Reads (putExpression v k) (tokensOf v l)
 unfolding putExpression tokensOf
 reads-expression void h k l r = r
 reads-expression (atom x v) h k l r =

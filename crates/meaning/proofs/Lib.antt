@@ -32,6 +32,8 @@ pub mod Told
 pub mod Inputs
 pub mod Tokens
 pub mod Fronts
+pub mod Matching
+pub mod Searching
 pub mod WatchComputing
 pub mod WatchExamples
 pub mod SiteExamples

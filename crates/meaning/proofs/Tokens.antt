@@ -5,7 +5,7 @@ use mathlib.Core.Path.{_≡_, refl, sym, ap, ap₂, subst, _∙_}
 use mathlib.Core.Bool.{Bool, true, false, true≢false, _&&_, cond}
 use mathlib.Core.List.{List, [], _∷_, _++_, append-cancel-right}
 use mathlib.Core.Option.{Option, none, some, Option·some-injective}
-use lib.Dec.{eqb, leb, ltb, leb·zero, leb·suc-zero, eqb·zero-suc, eqb·suc-zero, eqb·suc-suc}
+use lib.Dec.{eqb, leb, leb·suc-zero, eqb·zero-suc, eqb·suc-zero, eqb·suc-suc}
 use lib.ListN.{length, getD, take, drop, length-drop, length-append, take-append-drop}
 use lib.Seq.{length-take-le, drop-cons, drop-drop, getD-drop}
 use borrow.Author.Tests.{leb-true, le-leb, lt-leb, eqb-true, eq-eqb, ne-eqb}
@@ -14,12 +14,12 @@ use Rattle.program.specs.Bytes.{put32, putSpan, putName, get32, getSpan, Bytes}
 use Rattle.program.specs.Limits.{allowed, scalar, AllAllowed, ValidName, ValidSymbol}
 use Rattle.program.proofs.Numbers.{put32-back, span-back, get32-drop, bytes-of}
 use Rattle.program.specs.Encode.{putSymbol}
-use Rattle.patterns.specs.Expression.{Expression, void, atom, group, _⧺_}
+use Rattle.patterns.specs.Expression.{Expression, void, atom, group}
 use Rattle.patterns.specs.Marks.{zeroSpan, putExpression}
 use Rattle.patterns.proofs.Tests.{same-test}
 use Rattle.meaning.specs.Lists.{all}
 use Rattle.meaning.specs.Inputs.{Token, Reading, reading, spanFits, nameFits, codeFits, named, firstToken, ifRead, tokensUpTo, tokens, beforeAll, expressions, single, inputOf, answersOf}
-use Rattle.meaning.proofs.Inputs.{tokensOf, answerTokens, symbolBytes, ValidExpression, tokens-written}
+use Rattle.meaning.proofs.Inputs.{tokensOf, answerTokens, symbolBytes, ValidExpression, reads-expression, tokens-written}
 
 -- ---- the first token
 
@@ -391,6 +391,11 @@ expression-valid (group u v) ts h =
     let a = expression-valid u (Token.closing ∷ tokensOf v ts) (h .1) in
     let b = expression-valid v ts (a .1 .1) in
     ((a .0, b .0), b .1)
+
+-- An expression with zero spans before other tokens.
+pub tokens-before : (v : Expression) → ValidExpression v → (k : List ℕ) (l : List Token) → tokens k ≡ some l → tokens (putExpression v k) ≡ some (tokensOf v l)
+unfolding tokens
+tokens-before v h k l e = reads-expression v h k l (λ n m. tokens-enough n (length k) k m (omega arith) ∙ e) (length (putExpression v k)) (omega arith)
 
 pub input-valid : (s : List ℕ) (v : Expression) → inputOf s ≡ some v → ValidExpression v
 input-valid s v e = expression-valid v [] (tokens-valid s (tokensOf v []) (input-tokens s v e)) .0

@@ -1,0 +1,2 @@
+// Matching a pattern of the body with a value of the state.
+pub mod bindings;

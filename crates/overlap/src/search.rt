@@ -92,7 +92,7 @@ fn behind_heads(heads: Verdict, t: Tried) -> Tried
 }
 
 // The verdict on two heads, neither an `e.` variable, by their marks. What two brackets hold has a fresh fuel.
-pub fn overlap_of_terms<'a>(
+fn overlap_of_terms<'a>(
     left: &'a [u8],
     right: &'a [u8],
     entries: u32,

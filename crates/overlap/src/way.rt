@@ -4,11 +4,12 @@
 // bracket pair at each at most.
 use crate::OVERLAP_FUEL;
 use crate::is_overlap;
+use crate::literal_overlap;
 use crate::overlap_behind;
-use crate::search::overlap_of_terms;
 use crate::terms::leftover_overlap;
 use image::part::term_len;
 use patterns::Verdict;
+use symbols::same_symbol;
 ghost use mathlib.Core.Path.{_≡_};
 ghost use mathlib.Core.Bool.{true, false};
 ghost use mathlib.Core.List.{[]};
@@ -45,6 +46,35 @@ pub struct Turn {
     pub height: usize,
 }
 
+// The verdict on two heads that are not both brackets, by their marks. The cycle has the same tests in a function of its own, which
+// one caller alone keeps fast.
+fn flat_verdict<'a>(left: &'a [u8], right: &'a [u8]) -> Verdict
+    requires { ⌜ HeadAt (now left) × HeadAt (now right) × (getD (now left) 0 0 ≡ 7 → getD (now right) 0 0 ≡ 7 → ⊥) ⌝ }
+    ensures { λ r. ⌜ ((x : HeadAt (now (left .entry))) (y : HeadAt (now (right .entry))) → r ≡ overlapOfTerms sequence (x .head) (y .head)) ⌝ }
+{
+    let m = left[0];
+    let n = right[0];
+    if m == 7 {
+        if n < 5 {
+            return Verdict::Disjoint;
+        }
+        return Verdict::Overlap;
+    }
+    if n == 7 {
+        if m < 5 {
+            return Verdict::Disjoint;
+        }
+        return Verdict::Overlap;
+    }
+    if 3 < m {
+        return Verdict::Overlap;
+    }
+    if 3 < n {
+        return Verdict::Overlap;
+    }
+    literal_overlap(same_symbol(left, right))
+}
+
 // The verdict on the heads at two places. A bracket pair is asked in the room behind the stack.
 fn heads_verdict(b: &[u8], i: usize, j: usize, from: usize, room: &mut [u32]) -> Verdict
     requires { ⌜ HeadAt (drop i (now b)) × HeadAt (drop j (now b)) × (length (now b) ≤ 32768) ⌝ }
@@ -57,8 +87,7 @@ fn heads_verdict(b: &[u8], i: usize, j: usize, from: usize, room: &mut [u32]) ->
             return found.verdict;
         }
     }
-    let t = overlap_of_terms(&b[i..], &b[j..], 0, 0, true);
-    t.verdict
+    flat_verdict(&b[i..], &b[j..])
 }
 
 // Where an answer leads.

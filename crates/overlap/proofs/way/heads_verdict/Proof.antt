@@ -1,6 +1,6 @@
 -- `overlap::way::heads_verdict` meets its contract.
 use native.Mathlib.Omega.{arith}
-use mathlib.Core.Path.{_≡_, refl, sym, ap, _∙_}
+use mathlib.Core.Path.{_≡_, sym, ap, _∙_}
 use mathlib.Core.List.{List}
 use mathlib.Core.Logic.{⊎-elim}
 use Prim.Native.Nat.{ℕ, _+_, _<_}
@@ -11,7 +11,7 @@ use Rattle.program.specs.Limits.{Mode}
 use Rattle.image.specs.Parts.{TermsAt}
 use Rattle.patterns.specs.declared.Found.{Found}
 use Rattle.rows.specs.Parts.{HeadAt}
-use Rattle.rows.proofs.Readings.{part}
+use Rattle.rows.proofs.Readings.{part, mark-in}
 use Rattle.rows.proofs.Places.{kept-same}
 use Rattle.rows.proofs.Heads.{bracket-at, two-brackets}
 use Rattle.overlap.proofs.Ways.{head-inside, inner-at, head-part, mark-at}
@@ -63,38 +63,43 @@ returns c =
       q .1,
     )
 
-sub-overlap-of-terms : tie.Need-sub-overlap-of-terms
-sub-overlap-of-terms c = omega (arith, first-inside (c .before .before .before .before))
+sub-flat-verdict : tie.Need-sub-flat-verdict
+sub-flat-verdict c = omega (arith, first-inside (c .before .before .before .before))
 
-part-overlap-of-terms-start : tie.Need-part-overlap-of-terms-start
-part-overlap-of-terms-start c = omega (arith, first-inside (c .before .before .before .before))
+part-flat-verdict-start : tie.Need-part-flat-verdict-start
+part-flat-verdict-start c = omega (arith, first-inside (c .before .before .before .before))
 
-part-overlap-of-terms-end : tie.Need-part-overlap-of-terms-end
-part-overlap-of-terms-end c = search needs
+part-flat-verdict-end : tie.Need-part-flat-verdict-end
+part-flat-verdict-end c = search needs
 
-sub-overlap-of-terms-2 : tie.Need-sub-overlap-of-terms-2
-sub-overlap-of-terms-2 c = omega (arith, second-inside (c .before .before .before .before .before))
+sub-flat-verdict-2 : tie.Need-sub-flat-verdict-2
+sub-flat-verdict-2 c = omega (arith, second-inside (c .before .before .before .before .before))
 
-part-overlap-of-terms-start-2 : tie.Need-part-overlap-of-terms-start-2
-part-overlap-of-terms-start-2 c = omega (arith, second-inside (c .before .before .before .before .before))
+part-flat-verdict-start-2 : tie.Need-part-flat-verdict-start-2
+part-flat-verdict-start-2 c = omega (arith, second-inside (c .before .before .before .before .before))
 
-part-overlap-of-terms-end-2 : tie.Need-part-overlap-of-terms-end-2
-part-overlap-of-terms-end-2 c = search needs
+part-flat-verdict-end-2 : tie.Need-part-flat-verdict-end-2
+part-flat-verdict-end-2 c = search needs
 
-overlap-of-terms-requires : tie.Need-overlap-of-terms-requires
-overlap-of-terms-requires c κs =
+-- Not both are brackets.
+flat-verdict-requires : tie.Need-flat-verdict-requires
+flat-verdict-requires c κs =
     let s = c .before .before .before .before .before .before in
     let b = s .args .b .now in
-    (head-part b (s .args .i) (s .pre .0), head-part b (s .args .j) (s .pre .1))
+    let i = s .args .i in
+    let j = s .args .j in (
+      head-part b i (s .pre .0),
+      head-part b j (s .pre .1),
+      ⊎-elim {C = getD (part b i) 0 0 ≡ 7 → getD (part b j) 0 0 ≡ 7 → ⊥} (λ k e l. k .2 .left (sym (mark-in b j) ∙ l)) (λ k e l. k .left (sym (mark-in b i) ∙ e)) (c .before .before .if1 .came),
+    )
 
 returns-2 : tie.Need-returns-2
 returns-2 c =
     let s = c .before .before .before .before .before .before .before in
     let b = s .args .b .now in
-    let q = c .overlap-of-terms .ensures in
-    (λ x y. q .0 (head-part b (s .args .i) x) (head-part b (s .args .j) y) (q .1 refl), kept-same (s .args .from) (s .args .room .now))
+    (λ x y. c .flat-verdict .ensures (head-part b (s .args .i) x) (head-part b (s .args .j) y), kept-same (s .args .from) (s .args .room .now))
 
 pub heads-verdict-spec : {M : Type 1} → statement M
 heads-verdict-spec =
     tie.close
-    (tie.spec shared-slice-read-if1 shared-slice-read-if2 add-overlap-behind add-overlap-behind-2 overlap-behind-requires same-length returns sub-overlap-of-terms part-overlap-of-terms-start part-overlap-of-terms-end sub-overlap-of-terms-2 part-overlap-of-terms-start-2 part-overlap-of-terms-end-2 overlap-of-terms-requires returns-2)
+    (tie.spec shared-slice-read-if1 shared-slice-read-if2 add-overlap-behind add-overlap-behind-2 overlap-behind-requires same-length returns sub-flat-verdict part-flat-verdict-start part-flat-verdict-end sub-flat-verdict-2 part-flat-verdict-start-2 part-flat-verdict-end-2 flat-verdict-requires returns-2)

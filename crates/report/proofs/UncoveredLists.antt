@@ -5,8 +5,8 @@ use mathlib.Core.Path.{_≡_, refl, sym, ap, ap₂, _∙_}
 use mathlib.Core.Bool.{Bool, true, false, _&&_, not, cond, or-false, and-eq-true-iff}
 use mathlib.Core.List.{List, [], _∷_, _++_, map, flatten}
 use mathlib.Core.Option.{Option, none, some}
-use borrow.Author.Tests.{ltb-true, ltb-false}
-use lib.Dec.{ltb}
+use borrow.Author.Tests.{ltb-true, ltb-false, eqb-true}
+use lib.Dec.{ltb, eqb}
 use lib.ListN.{length, getElem?, take}
 use Rattle.program.specs.Syntax.{Name, Terms, Sentences, empty, sentence, Function, Program}
 use Rattle.program.specs.Encode.{sentenceCount}
@@ -21,13 +21,15 @@ use Rattle.meaning.specs.Lists.{all, any, select}
 use Rattle.told.specs.Numbered.{Held, sentencesBefore, sitesOf}
 use Rattle.told.specs.Calls.{isListed}
 use Rattle.program.proofs.Own.{sentences-counted}
-use Rattle.index.proofs.First.{element-below, element-same}
+use Rattle.index.proofs.First.{Element, element-below, element-same}
 use Rattle.told.specs.Asked.{restricts, isMet, isJudged}
 use Rattle.meaning.specs.Cleaning.{isDisjoint}
 use Rattle.meaning.specs.CleanReport.{UncoveredRestriction, sameUncovered}
 use Rattle.told.specs.History.{numbered}
 use Rattle.meaning.specs.Text.{formatTerms}
 use Rattle.told.specs.ToldReport.{uncoveredIn, judgedOnly, uncoveredTold}
+use Rattle.cleaning.specs.Walks.{Owns, WitnessOf}
+use Rattle.cleaning.proofs.Witnesses.{met-itself}
 use Rattle.cleaning.proofs.Owned.{before-next, own-element}
 use Rattle.cleaning.proofs.Walking.{and-none}
 use Rattle.meaning.specs.Report.{uncoveredLine}
@@ -149,6 +151,15 @@ module _ (keep : ℕ → Bool) (w : Program) (f : ℕ) (x : Function) (e : getEl
   pub covering-first : (s : ℕ) → s ≡ sentencesBefore f (w .functions) → Uncovering keep w f r s
   covering-first s z = record { from = omega arith; none = λ k y a b g. absurd (omega arith) }
 
+  -- A sentence of the function that covers r.
+  pub covered-by : {s : ℕ} → sentencesBefore f (w .functions) ≤ s → (z : Sentence) → getElem? (ownSentences (w .functions)) s ≡ some z → s < sentencesBefore (suc f) (w .functions) → (keep s && not (isDisjoint (patternsOverlap (z .pattern) r))) ≡ true → isUncovered keep x (sentencesBefore f (w .functions)) r ≡ false
+  unfolding isUncovered
+  covered-by {s} from z g l h =
+      let begin = sentencesBefore f (w .functions) in
+      let u : begin + (s - begin) ≡ s = omega (arith, from) in
+      let k = own-element (w .functions) f x (s - begin) e (omega (arith, from, before-next (w .functions) f x e)) in
+      all-found keep apart (x .sentences) begin (s - begin) z (sym k ∙ (ap (getElem? (ownSentences (w .functions))) u ∙ g)) (ap (λ (n : ℕ). keep n && not (apart z)) u ∙ h)
+
   module _ {s : ℕ} (a : Uncovering keep w f r s) where
     pub covering-next : (z : Sentence) → getElem? (ownSentences (w .functions)) s ≡ some z → (keep s && not (isDisjoint (patternsOverlap (z .pattern) r))) ≡ false → Uncovering keep w f r (s + 1)
     covering-next z g h = record { from = omega (arith, a .from); none = λ k y u v q. by k y u v q (ltb k s) refl }
@@ -160,14 +171,8 @@ module _ (keep : ℕ → Bool) (w : Program) (f : ℕ) (x : Function) (e : getEl
             let m : y ≡ z = element-same (ownSentences (w .functions)) s y z (rw n at q) g in
             ap₂ (λ (i : ℕ) (j : Sentence). keep i && not (apart j)) n m ∙ h
 
-    pub covering-found : (z : Sentence) → getElem? (ownSentences (w .functions)) s ≡ some z → s < sentencesBefore (suc f) (w .functions) → (keep s && not (isDisjoint (patternsOverlap (z .pattern) r))) ≡ true
-        → isUncovered keep x (sentencesBefore f (w .functions)) r ≡ false
-    unfolding isUncovered
-    covering-found z g l h =
-        let begin = sentencesBefore f (w .functions) in
-        let u : begin + (s - begin) ≡ s = omega (arith, a .from) in
-        let k = own-element (w .functions) f x (s - begin) e (omega (arith, a .from, before-next (w .functions) f x e)) in
-        all-found keep apart (x .sentences) begin (s - begin) z (sym k ∙ (ap (getElem? (ownSentences (w .functions))) u ∙ g)) (ap (λ (n : ℕ). keep n && not (apart z)) u ∙ h)
+    pub covering-found : (z : Sentence) → getElem? (ownSentences (w .functions)) s ≡ some z → s < sentencesBefore (suc f) (w .functions) → (keep s && not (isDisjoint (patternsOverlap (z .pattern) r))) ≡ true → isUncovered keep x (sentencesBefore f (w .functions)) r ≡ false
+    covering-found z g l h = covered-by (a .from) z g l h
 
     pub covering-end : sentencesBefore (suc f) (w .functions) ≤ s → isUncovered keep x (sentencesBefore f (w .functions)) r ≡ true
     unfolding isUncovered
@@ -176,6 +181,15 @@ module _ (keep : ℕ → Bool) (w : Program) (f : ℕ) (x : Function) (e : getEl
         all-none keep apart (x .sentences) begin (λ k z g.
         let v : k < sentenceCount (x .sentences) = omega (arith, element-below (sentenceList (x .sentences)) k z g, sentences-counted (x .sentences)) in
         a .none (begin + k) z (omega arith) (omega (arith, before-next (w .functions) f x e)) (own-element (w .functions) f x k e v ∙ g))
+
+-- The site i is the witness of the sentence s of the f-th function x, which is left: it covers the site's argument.
+pub witness-covers : (keep : ℕ → Bool) (w : Program) (f : ℕ) (x : Function) (e : getElem? (w .functions) f ≡ some x) (i : ℕ) (y : Held) → getElem? (sitesOf w) i ≡ some y → {s d : ℕ} (z : Element (ownSentences (w .functions)) s) → sentencesBefore f (w .functions) ≤ s → s < sentencesBefore (suc f) (w .functions)
+    → ((u : Sentence) → Owns w f x s u → WitnessOf keep (x .name) (u .pattern) (sitesOf w) d) → (keep s && eqb d (i + 1)) ≡ true → isUncovered keep x (sentencesBefore f (w .functions)) (y .site .argument) ≡ false
+witness-covers keep w f x e i y g {s} {d} z a b h t =
+    let q = and-eq-true-iff (keep s) (eqb d (i + 1)) .0 t in
+    let o : Owns w f x s (z .element) = record { function = e; sentence = z .is; from = a; upto = b } in
+    covered-by keep w f x e (y .site .argument) a (z .element) (z .is) b
+    (sym (covers-known (keep s) (q .0) (z .element .pattern) y true (met-itself keep (x .name) (z .element .pattern) (sitesOf w) d (h (z .element) o) i y g (omega (arith, eqb-true d (i + 1) (q .1))))))
 
 -- ---- the candidates of a site, of a function, of functions
 

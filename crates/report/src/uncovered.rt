@@ -21,11 +21,12 @@ use text::emit::put_byte;
 use text::emit::put_bytes;
 use text::terms::format_terms;
 ghost use mathlib.Core.Path.{_≡_};
-ghost use mathlib.Core.Bool.{true, _&&_, not};
-ghost use mathlib.Core.List.{[], _∷_, flatMap};
+ghost use mathlib.Core.Bool.{true, false, _&&_, not};
+ghost use mathlib.Core.List.{List, [], _∷_, flatMap};
 ghost use mathlib.Core.Option.{some};
 ghost use Prim.Native.Nat.{ℕ, _+_, _*_, _<_, _≤_};
-ghost use lib.ListN.{length, getElem?};
+ghost use lib.Dec.{eqb};
+ghost use lib.ListN.{length, getD, getElem?};
 ghost use Rattle.program.specs.Syntax.{Function, Program};
 ghost use Rattle.program.specs.Sentences.{Sentence};
 ghost use Rattle.patterns.specs.Names.{eqBytes};
@@ -37,7 +38,8 @@ ghost use Rattle.told.specs.Asked.{isJudged};
 ghost use Rattle.meaning.specs.Cleaning.{isDisjoint};
 ghost use Rattle.meaning.specs.CleanReport.{sameUncovered};
 ghost use Rattle.told.specs.History.{isThere, afterAll};
-ghost use Rattle.cleaning.specs.Indexed.{fellOf};
+ghost use Rattle.index.specs.Layout.{witnesses, room};
+ghost use Rattle.cleaning.specs.Indexed.{SomeBody, fellOf};
 ghost use Rattle.cleaning.specs.Room.{Used};
 ghost use Rattle.meaning.specs.Text.{formatTerms};
 ghost use Rattle.cleaning.specs.Walks.{Owns};
@@ -70,8 +72,36 @@ fn covers(b: &[u8], work: &mut [u32], plan: Plan, s: usize, i: usize) -> bool
     !is_disjoint(verdict_at(b, work, plan, pattern, i))
 }
 
+// Whether the plain site i is the witness of the sentence s, which is left.
+fn is_witness(work: &[u32], plan: Plan, s: usize, i: usize) -> bool
+    requires { ⌜ (s < plan .sentences) × (i < plan .sites) × (room plan ≤ length (now work)) × (length (now work) ≤ 8192) ⌝ }
+    ensures { λ r. ⌜ r ≡ (isThere (fellOf plan (now (work .entry))) afterAll s && eqb (getD (now (work .entry)) (witnesses plan + s) 0) (i + 1)) ⌝ }
+{
+    if !is_there(work, plan, s, AFTER_ALL) {
+        return false;
+    }
+    let k = witnesses_of(plan) + s;
+    work[k] as usize == i + 1
+}
+
+// Whether it is that of a sentence of the f-th function, which then covers it.
+fn is_witnessed(work: &[u32], plan: Plan, f: usize, i: usize) -> bool
+    requires { ⌜ SomeBody (now work) plan × (f < plan .functions) × (i < plan .sites) ⌝ }
+    ensures { λ r. ⌜ ((b : List ℕ) (w : Program) (x : Function) (y : Held) → Readable b w (now (work .entry)) plan → getElem? (w .functions) f ≡ some x → getElem? (sitesOf w) i ≡ some y → r ≡ true → isUncovered (isThere (fellOf plan (now (work .entry))) afterAll) x (sentencesBefore f (w .functions)) (y .site .argument) ≡ false) ⌝ }
+{
+    let end = first_sentence(work, plan, f + 1);
+    let mut s = first_sentence(work, plan, f);
+    while s < end {
+        if is_witness(work, plan, s, i) {
+            return true;
+        }
+        s += 1;
+    }
+    false
+}
+
 // Whether some sentence of the f-th function covers the argument of the plain site i.
-fn is_covered(b: &[u8], work: &mut [u32], plan: Plan, f: usize, i: usize) -> bool
+fn any_covers(b: &[u8], work: &mut [u32], plan: Plan, f: usize, i: usize) -> bool
     requires { ⌜ SomeSite (now b) (now work) plan i × (f < plan .functions) ⌝ }
     ensures answers { λ r. ⌜ ((w : Program) (x : Function) (y : Held) → Readable (now (b .entry)) w (now (work .entry)) plan → getElem? (w .functions) f ≡ some x → getElem? (sitesOf w) i ≡ some y → isListed true (x .name) y ≡ true → isThere (fellOf plan (now (work .entry))) afterAll (y .sentence) ≡ true → isUncovered (isThere (fellOf plan (now (work .entry))) afterAll) x (sentencesBefore f (w .functions)) (y .site .argument) ≡ not r) ⌝ }
     ensures keeps { λ _. ⌜ Used plan (now (work .entry)) (now (work .exit)) ⌝ }
@@ -85,6 +115,18 @@ fn is_covered(b: &[u8], work: &mut [u32], plan: Plan, f: usize, i: usize) -> boo
         s += 1;
     }
     false
+}
+
+// The same; witnesses are looked at first, as they tell it without asking.
+fn is_covered(b: &[u8], work: &mut [u32], plan: Plan, f: usize, i: usize) -> bool
+    requires { ⌜ SomeSite (now b) (now work) plan i × (f < plan .functions) ⌝ }
+    ensures answers { λ r. ⌜ ((w : Program) (x : Function) (y : Held) → Readable (now (b .entry)) w (now (work .entry)) plan → getElem? (w .functions) f ≡ some x → getElem? (sitesOf w) i ≡ some y → isListed true (x .name) y ≡ true → isThere (fellOf plan (now (work .entry))) afterAll (y .sentence) ≡ true → isUncovered (isThere (fellOf plan (now (work .entry))) afterAll) x (sentencesBefore f (w .functions)) (y .site .argument) ≡ not r) ⌝ }
+    ensures keeps { λ _. ⌜ Used plan (now (work .entry)) (now (work .exit)) ⌝ }
+{
+    if is_witnessed(work, plan, f, i) {
+        return true;
+    }
+    any_covers(b, work, plan, f, i)
 }
 
 // The line of the argument of the plain site i, a restriction of the f-th function.

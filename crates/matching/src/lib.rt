@@ -1,2 +1,3 @@
 // Matching a pattern of the body with a value of the state.
 pub mod bindings;
+pub mod steps;

@@ -4,15 +4,16 @@ use native.Mathlib.Omega.{arith}
 use mathlib.Core.Path.{_≡_, refl, sym, ap, _∙_}
 use mathlib.Core.Bool.{Bool, true, false, true≢false, _&&_, cond}
 use mathlib.Core.List.{List, [], _∷_, _++_}
-use mathlib.Core.Option.{Option, none, some}
+use mathlib.Core.Option.{Option, some}
 use lib.Dec.{eqb, leb, ltb}
-use lib.ListN.{length, getD, take, drop}
-use Rattle.program.specs.Syntax.{Name, Symbol, character, identifier, number}
+use lib.ListN.{length, take, drop}
+use Rattle.program.specs.Syntax.{Name, Span, Symbol, character, identifier, number}
 use Rattle.program.specs.Bytes.{put32, putSpan, putName, get32}
 use Rattle.program.specs.Encode.{putSymbol}
 use borrow.Author.Tests.{ltb-true, leb-true, le-leb, ne-eqb}
 use Rattle.program.proofs.Numbers.{get32-put32}
-use Rattle.program.specs.Limits.{pick, allowed, scalar, AllAllowed, ValidName, ValidSymbol}
+use Rattle.program.proofs.Lengths.{span-length}
+use Rattle.program.specs.Limits.{pick, allowed, scalar, AllAllowed, ValidSpan, ValidName, ValidSymbol}
 use Rattle.patterns.specs.Expression.{Expression, void, atom, group, _⧺_}
 use Rattle.patterns.specs.Marks.{zeroSpan, putExpression}
 use Rattle.patterns.proofs.Expression.{⧺-void}
@@ -59,10 +60,10 @@ long : (n k : List ℕ) → length n ≤ length (n ++ k)
 long [] k = omega arith
 long (b ∷ n) k = let h = long n k in omega (arith, h)
 
--- A code behind a mark and a zero span, and that codes of document 01 have 32 bits.
-code-back : (c : ℕ) (k : List ℕ) → c < 4294967296 → get32 (1 ∷ putSpan zeroSpan (put32 c k)) 9 ≡ c
-unfolding get32 putSpan put32 zeroSpan
-code-back c k h = get32-put32 c k h
+-- A code behind a mark and a span, and that codes of document 01 have 32 bits.
+code-back : (p : Span) (c : ℕ) (k : List ℕ) → c < 4294967296 → get32 (1 ∷ putSpan p (put32 c k)) 9 ≡ c
+unfolding get32 putSpan put32
+code-back p c k h = get32-put32 c k h
 
 scalar-small : (c : ℕ) → scalar c ≡ true → c < 4294967296
 unfolding scalar
@@ -82,52 +83,63 @@ symbolBytes (character c) = 13
 symbolBytes (identifier n) = 10 + length n
 symbolBytes (number n) = 10 + length n
 
--- A record with a zero span and a name.
-name-fits : (g : Bool) (m : ℕ) (n k : List ℕ) → ValidName g n → nameFits g (m ∷ putSpan zeroSpan (putName n k)) ≡ true
-unfolding nameFits putSpan put32 putName zeroSpan
-name-fits g m n k h =
+-- A record with a span and a name.
+name-fits : (g : Bool) (m : ℕ) (p : Span) (n k : List ℕ) → ValidName g n → nameFits g (m ∷ putSpan p (putName n k)) ≡ true
+unfolding nameFits putSpan put32 putName
+name-fits g m p n k h =
     let l = long n k in
     both (le-leb 1 (length n) (h .0))
-    (both (le-leb (length n) 63 (h .1)) (both (le-leb (10 + length n) (length (m ∷ putSpan zeroSpan (putName n k))) (omega (arith, l))) (ap (all (allowed g)) (front n k) ∙ all-allowed g n (h .2))))
+    (both (le-leb (length n) 63 (h .1)) (both (le-leb (10 + length n) (length (m ∷ putSpan p (putName n k))) (omega (arith, l))) (ap (all (allowed g)) (front n k) ∙ all-allowed g n (h .2))))
 
-span-fits : (m : ℕ) (k : List ℕ) → spanFits (m ∷ putSpan zeroSpan k) ≡ true
-unfolding spanFits putSpan put32 zeroSpan get32
-span-fits m k = both (le-leb 9 (length (m ∷ putSpan zeroSpan k)) (omega arith)) refl
+span-back : (m : ℕ) (p : Span) (k : List ℕ) → ValidSpan p → (get32 (m ∷ putSpan p k) 1 ≡ p .start) × (get32 (m ∷ putSpan p k) 5 ≡ p .end)
+unfolding putSpan put32 get32
+span-back m p k h = (get32-put32 (p .start) (put32 (p .end) k) (omega arith), get32-put32 (p .end) k (h .1))
+
+span-fits : (m : ℕ) (p : Span) (k : List ℕ) → ValidSpan p → spanFits (m ∷ putSpan p k) ≡ true
+unfolding spanFits
+span-fits m p k h =
+    let e = span-back m p k h in
+    both (le-leb 9 (length (m ∷ putSpan p k)) (let l = span-length p k in omega (arith, l))) (le-leb (get32 (m ∷ putSpan p k) 1) (get32 (m ∷ putSpan p k) 5) (omega (arith, e .0, e .1, h .0)))
 
 yes : {A : Type 0} (t : Bool) (a b : A) → t ≡ true → cond t a b ≡ a
 yes t a b e = ap (λ (x : Bool). cond x a b) e
 
-long-code : (c : ℕ) (k : List ℕ) → leb 13 (length (1 ∷ putSpan zeroSpan (put32 c k))) ≡ true
-unfolding putSpan put32 zeroSpan
-long-code c k = le-leb 13 (length (1 ∷ putSpan zeroSpan (put32 c k))) (omega arith)
+long-code : (p : Span) (c : ℕ) (k : List ℕ) → leb 13 (length (1 ∷ putSpan p (put32 c k))) ≡ true
+unfolding putSpan put32
+long-code p c k = le-leb 13 (length (1 ∷ putSpan p (put32 c k))) (omega arith)
 
-behind-name : (m : ℕ) (n k : List ℕ) → drop (10 + length n) (m ∷ putSpan zeroSpan (putName n k)) ≡ k
-unfolding putSpan put32 putName zeroSpan
-behind-name m n k = ap (λ (i : ℕ). drop i (m ∷ putSpan zeroSpan (putName n k))) (plus-ten (length n)) ∙ behind n k
+behind-name : (m : ℕ) (p : Span) (n k : List ℕ) → drop (10 + length n) (m ∷ putSpan p (putName n k)) ≡ k
+unfolding putSpan put32 putName
+behind-name m p n k = ap (λ (i : ℕ). drop i (m ∷ putSpan p (putName n k))) (plus-ten (length n)) ∙ behind n k
   where
     plus-ten : (i : ℕ) → 10 + i ≡ suc (suc (suc (suc (suc (suc (suc (suc (suc (suc i)))))))))
     plus-ten i = omega arith
 
-pub first-symbol : (x : Symbol) → ValidSymbol x → (k : List ℕ) → firstToken (putSymbol zeroSpan x k) ≡ reading (Token.symbol x) (symbolBytes x)
+pub first-symbol : (p : Span) → ValidSpan p → (x : Symbol) → ValidSymbol x → (k : List ℕ) → firstToken (putSymbol p x k) ≡ reading (Token.symbol x) (symbolBytes x)
 unfolding firstToken putSymbol symbolBytes codeFits putSpan put32 putName
-first-symbol (character c) h k =
-    yes (spanFits (1 ∷ putSpan zeroSpan (put32 c k))) _ _ (span-fits 1 (put32 c k))
-    ∙ (yes (codeFits (1 ∷ putSpan zeroSpan (put32 c k))) _ _ (both (long-code c k) (ap scalar (code-back c k (scalar-small c h)) ∙ h))
-    ∙ ap (λ (d : ℕ). reading (Token.symbol (character d)) 13) (code-back c k (scalar-small c h)))
-first-symbol (identifier n) h k =
-    yes (spanFits (2 ∷ putSpan zeroSpan (putName n k))) _ _ (span-fits 2 (putName n k))
-    ∙ (yes (nameFits false (2 ∷ putSpan zeroSpan (putName n k))) _ _ (name-fits false 2 n k h)
-    ∙ ap (λ (d : Name). reading (Token.symbol (identifier d)) (10 + length n)) (unfold named putSpan put32 putName zeroSpan in front n k))
-first-symbol (number n) h k =
-    yes (spanFits (3 ∷ putSpan zeroSpan (putName n k))) _ _ (span-fits 3 (putName n k))
-    ∙ (yes (nameFits true (3 ∷ putSpan zeroSpan (putName n k))) _ _ (name-fits true 3 n k h)
-    ∙ ap (λ (d : Name). reading (Token.symbol (number d)) (10 + length n)) (unfold named putSpan put32 putName zeroSpan in front n k))
+first-symbol p v (character c) h k =
+    yes (spanFits (1 ∷ putSpan p (put32 c k))) _ _ (span-fits 1 p (put32 c k) v)
+    ∙ (yes (codeFits (1 ∷ putSpan p (put32 c k))) _ _ (both (long-code p c k) (ap scalar (code-back p c k (scalar-small c h)) ∙ h))
+    ∙ ap (λ (d : ℕ). reading (Token.symbol (character d)) 13) (code-back p c k (scalar-small c h)))
+first-symbol p v (identifier n) h k =
+    yes (spanFits (2 ∷ putSpan p (putName n k))) _ _ (span-fits 2 p (putName n k) v)
+    ∙ (yes (nameFits false (2 ∷ putSpan p (putName n k))) _ _ (name-fits false 2 p n k h)
+    ∙ ap (λ (d : Name). reading (Token.symbol (identifier d)) (10 + length n)) (unfold named putSpan put32 putName in front n k))
+first-symbol p v (number n) h k =
+    yes (spanFits (3 ∷ putSpan p (putName n k))) _ _ (span-fits 3 p (putName n k) v)
+    ∙ (yes (nameFits true (3 ∷ putSpan p (putName n k))) _ _ (name-fits true 3 p n k h)
+    ∙ ap (λ (d : Name). reading (Token.symbol (number d)) (10 + length n)) (unfold named putSpan put32 putName in front n k))
 
-pub behind-symbol : (x : Symbol) (k : List ℕ) → drop (symbolBytes x) (putSymbol zeroSpan x k) ≡ k
-unfolding symbolBytes putSymbol putSpan put32 putName zeroSpan
-behind-symbol (character c) k = refl
-behind-symbol (identifier n) k = behind-name 2 n k
-behind-symbol (number n) k = behind-name 3 n k
+pub behind-symbol : (p : Span) (x : Symbol) (k : List ℕ) → drop (symbolBytes x) (putSymbol p x k) ≡ k
+unfolding symbolBytes putSymbol putSpan put32 putName
+behind-symbol p (character c) k = refl
+behind-symbol p (identifier n) k = behind-name 2 p n k
+behind-symbol p (number n) k = behind-name 3 p n k
+
+-- A zero span is one.
+pub zero-valid : ValidSpan zeroSpan
+unfolding zeroSpan
+zero-valid = (omega arith, omega arith)
 
 -- The bytes of an expression begin with its tokens.
 abbrev pub ValidExpression : Expression → Type 0
@@ -142,19 +154,19 @@ long-behind : (n k : List ℕ) → length k ≤ length (n ++ k)
 long-behind [] k = omega arith
 long-behind (b ∷ n) k = let h = long-behind n k in omega (arith, h)
 
-first-opening : (k : List ℕ) → firstToken (7 ∷ putSpan zeroSpan k) ≡ reading Token.opening 9
+pub first-opening : (p : Span) → ValidSpan p → (k : List ℕ) → firstToken (7 ∷ putSpan p k) ≡ reading Token.opening 9
 unfolding firstToken
-first-opening k = yes (spanFits (7 ∷ putSpan zeroSpan k)) _ _ (span-fits 7 k)
+first-opening p v k = yes (spanFits (7 ∷ putSpan p k)) _ _ (span-fits 7 p k v)
 
-behind-opening : (k : List ℕ) → drop 9 (7 ∷ putSpan zeroSpan k) ≡ k
-unfolding putSpan put32 zeroSpan
-behind-opening k = refl
+pub behind-opening : (p : Span) (k : List ℕ) → drop 9 (7 ∷ putSpan p k) ≡ k
+unfolding putSpan put32
+behind-opening p k = refl
 
 longer-opening : (k : List ℕ) → length k < length (7 ∷ putSpan zeroSpan k)
 unfolding putSpan put32 zeroSpan
 longer-opening k = omega arith
 
-first-closing : (k : List ℕ) → firstToken (15 ∷ k) ≡ reading Token.closing 1
+pub first-closing : (k : List ℕ) → firstToken (15 ∷ k) ≡ reading Token.closing 1
 unfolding firstToken
 first-closing k = refl
 
@@ -187,10 +199,10 @@ unfolding putExpression tokensOf
 reads-expression void h k l r = r
 reads-expression (atom x v) h k l r =
     reads-token (putSymbol zeroSpan x (putExpression v k)) (putExpression v k) (Token.symbol x) (symbolBytes x) (tokensOf v l)
-    (first-symbol x (h .0) (putExpression v k)) (behind-symbol x (putExpression v k)) (longer-symbol x (putExpression v k)) (reads-expression v (h .1) k l r)
+    (first-symbol zeroSpan zero-valid x (h .0) (putExpression v k)) (behind-symbol zeroSpan x (putExpression v k)) (longer-symbol x (putExpression v k)) (reads-expression v (h .1) k l r)
 reads-expression (group u v) h k l r =
     let inner = putExpression u (15 ∷ putExpression v k) in
-    reads-token (7 ∷ putSpan zeroSpan inner) inner Token.opening 9 (tokensOf u (Token.closing ∷ tokensOf v l)) (first-opening inner) (behind-opening inner) (longer-opening inner)
+    reads-token (7 ∷ putSpan zeroSpan inner) inner Token.opening 9 (tokensOf u (Token.closing ∷ tokensOf v l)) (first-opening zeroSpan zero-valid inner) (behind-opening zeroSpan inner) (longer-opening inner)
     (reads-expression u (h .0) (15 ∷ putExpression v k) (Token.closing ∷ tokensOf v l)
     (reads-token (15 ∷ putExpression v k) (putExpression v k) Token.closing 1 (tokensOf v l) (first-closing (putExpression v k)) refl (omega arith) (reads-expression v (h .1) k l r)))
 

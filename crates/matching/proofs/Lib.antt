@@ -1,3 +1,4 @@
 pub mod Variables
 pub mod Held
 pub mod Meeting
+pub mod Taking

@@ -234,7 +234,7 @@ one-match b = all-ended [] b
 
 -- ---- at two places
 
-drop-take : (m n : ℕ) (s : List ℕ) → drop m (take n s) ≡ take (n - m) (drop m s)
+pub drop-take : (m n : ℕ) (s : List ℕ) → drop m (take n s) ≡ take (n - m) (drop m s)
 drop-take zero n s = ap (λ (i : ℕ). take i s) (let e : n ≡ n - 0 = omega arith in e)
 drop-take (suc m) zero s = let e : 0 ≡ 0 - suc m = omega arith in ap (λ (i : ℕ). take i (drop (suc m) s)) e
 drop-take (suc m) (suc n) [] = sym (take-nil (suc n - suc m))

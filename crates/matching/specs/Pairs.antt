@@ -3,12 +3,15 @@ use Prim.Native.Nat.{ℕ, _-_, _≤_}
 use mathlib.Core.Path.{_≡_}
 use mathlib.Core.List.{List, [], _∷_}
 use lib.ListN.{length, take, drop}
+use Rattle.program.specs.Syntax.{Span, Name, Kind, Terms, variable}
 use Rattle.program.specs.Encode.{putTerms}
 use Rattle.program.specs.Limits.{Mode, ValidTerms}
+use Rattle.patterns.specs.Expression.{Expression}
 use Rattle.patterns.specs.Marks.{putExpression}
 use Rattle.meaning.specs.Match.{Bindings}
 use Rattle.meaning.proofs.Inputs.{ValidExpression}
-use Rattle.meaning.proofs.Matching.{Pair, matchesAll}
+use Rattle.meaning.proofs.Matching.{Pair, pair, matchesAll}
+use Rattle.matching.specs.Bindings.{HoldsAt}
 use Rattle.matching.specs.declared.steps.Met.{Met}
 
 -- The patterns of pairs, each with its close.
@@ -55,3 +58,31 @@ abbrev pub Meets : List ℕ → List ℕ → ℕ → List ℕ → Pair → List 
 Meets body work end rest x l (Met.On p v) = Onward body work p v end rest x l
 Meets body work end rest x l (Met.Matched p) = (drop p body ≡ rest) × ((b : Bindings) → matchesAll (x ∷ l) b ≡ b ∷ [])
 Meets body work end rest x l Met.Failed = (b : Bindings) → matchesAll (x ∷ l) b ≡ []
+
+-- A variable of the pattern at two places, and what is left to match behind it.
+pub record VariablePair (body work : List ℕ) (p v end : ℕ) : Type 0 where
+  pub span : Span
+  pub kind : Kind
+  pub name : Name
+  pub behind : Terms
+  pub value : Expression
+  pub more : List Pair
+  pub rest : List ℕ
+  pub at : PairsAt body work p v end rest (pair (variable span kind name behind) value) more
+
+-- What one step comes to with the bindings b, which become d: on at two places, or no match.
+pub record OnwardWith (body work : List ℕ) (p v end : ℕ) (rest : List ℕ) (x : Pair) (l : List Pair) (b d : Bindings) : Type 0 where
+  pub first : Pair
+  pub more : List Pair
+  pub at : PairsAt body work p v end rest first more
+  pub same : matchesAll (x ∷ l) b ≡ matchesAll (first ∷ more) d
+
+abbrev pub MeetsWith : List ℕ → List ℕ → ℕ → List ℕ → Pair → List Pair → Bindings → Bindings → Met → Type 0
+MeetsWith body work end rest x l b d (Met.On p v) = OnwardWith body work p v end rest x l b d
+MeetsWith body work end rest x l b d (Met.Matched p) = ⊥
+MeetsWith body work end rest x l b d Met.Failed = matchesAll (x ∷ l) b ≡ []
+
+-- The value of a known variable, by the place of its binding.
+pub record Held (work : List ℕ) (top at : ℕ) : Type 0 where
+  pub value : Expression
+  pub is : HoldsAt work top at value

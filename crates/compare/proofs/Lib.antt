@@ -1,3 +1,4 @@
 pub mod Letters
 pub mod Walk
 pub mod Cursor
+pub mod Same

@@ -1,5 +1,5 @@
 -- The text of terms letter by letter, as the Rust's `format_terms` prints it. A token is a symbol, a variable, a bracket's beginning or a close; it stands at the start of s and is known by its mark.
-use Prim.Native.Nat.{ℕ, _+_, _≤_, _<_}
+use Prim.Native.Nat.{ℕ, _+_, _-_, _≤_, _<_}
 use mathlib.Core.Path.{_≡_}
 use mathlib.Core.Bool.{cond}
 use mathlib.Core.List.{List, [], _∷_, _++_}
@@ -34,6 +34,10 @@ tokenGap s = cond (eqb (getD s 0 0) 7) [] (gapBefore (getD s (tokenLength s) 0))
 -- The token's letters, the space behind it among them.
 unfoldable pub letters : List ℕ → Text
 letters s = tokenText s ++ tokenGap s
+
+-- How many closes are to come behind a token with the mark m, the last close among them.
+unfoldable pub closesAfter : ℕ → ℕ → ℕ
+closesAfter m c = cond (eqb m 7) (c + 1) (cond (eqb m 15) (c - 1) c)
 
 -- A token at the start of s with another one behind it.
 pub record TokenIn (s : List ℕ) : Type 0 where

@@ -2,6 +2,7 @@
 // identifier may be spelled as a variable is, so tokens are not compared.
 use image::number::read32;
 use image::part::terms_len;
+use symbols::same_bytes;
 use text::emit::lead_of_four;
 use text::emit::lead_of_three;
 use text::emit::lead_of_two;
@@ -9,7 +10,7 @@ use text::emit::trail;
 use text::terms::kind_letter;
 use text::terms::quote_of;
 ghost use mathlib.Core.Path.{_≡_};
-ghost use mathlib.Core.Bool.{cond};
+ghost use mathlib.Core.Bool.{true, cond, _&&_};
 ghost use mathlib.Core.List.{_∷_};
 ghost use Prim.Native.Nat.{_+_, _<_, _≤_};
 ghost use lib.Dec.{eqb};
@@ -20,7 +21,7 @@ ghost use Rattle.image.specs.Parts.{TermsAt};
 ghost use Rattle.patterns.specs.Names.{eqBytes};
 ghost use Rattle.meaning.specs.Text.{utf8, formatSymbol, formatTerms};
 ghost use Rattle.text.specs.FormatTerm.{kindLetter};
-ghost use Rattle.compare.specs.Letters.{tokenLength, tokenName, tokenText, letters, TokenIn};
+ghost use Rattle.compare.specs.Letters.{tokenLength, tokenName, tokenText, letters, closesAfter, TokenIn};
 
 // How many bytes a code has in UTF-8.
 fn code_len(code: u32) -> usize
@@ -199,11 +200,100 @@ fn letter_after(k: usize, last: bool) -> usize
     if last { 0 } else { k + 1 }
 }
 
+// The name of the token at the start of x.
+fn token_name(x: &[u8]) -> &[u8]
+    requires { ⌜ 10 + getD (now x) 9 0 ≤ length (now x) ⌝ }
+    ensures { λ r. ⌜ now r ≡ tokenName (now (x .entry)) ⌝ }
+{
+    let end = 10 + x[9] as usize;
+    &x[10..end]
+}
+
+// Whether two tokens of one mark hold the same: then they print the same by themselves.
+fn same_content(x: &[u8], y: &[u8]) -> bool
+    requires { ⌜ TokenIn (now x) × TokenIn (now y) × (getD (now x) 0 0 ≡ getD (now y) 0 0) ⌝ }
+    ensures { λ r. ⌜ (r ≡ true → (tokenText (now (x .entry)) ≡ tokenText (now (y .entry))) × (tokenLength (now (x .entry)) ≡ tokenLength (now (y .entry)))) ⌝ }
+{
+    let m = x[0];
+    if m == 1 {
+        return read32(x, 9) == read32(y, 9);
+    }
+    if m < 7 {
+        return same_bytes(token_name(x), token_name(y));
+    }
+    true
+}
+
+// The same, with the space behind them.
+fn same_letters(x: &[u8], y: &[u8]) -> bool
+    requires { ⌜ TokenIn (now x) × TokenIn (now y) × (getD (now x) 0 0 ≡ getD (now y) 0 0) ⌝ }
+    ensures { λ r. ⌜ (r ≡ true → (letters (now (x .entry)) ≡ letters (now (y .entry))) × (tokenLength (now (x .entry)) ≡ tokenLength (now (y .entry)))) ⌝ }
+{
+    if !same_content(x, y) {
+        return false;
+    }
+    if x[0] == 7 {
+        return true;
+    }
+    let k = token_len(x);
+    if x[k] == 15 {
+        return y[k] == 15;
+    }
+    y[k] != 15
+}
+
+// How many closes are to come behind the mark m.
+fn closes_after(m: u8, closes: usize) -> usize
+    requires { ⌜ (0 < closes) × (closes < 18446744073709551615) ⌝ }
+    ensures { λ r. ⌜ r ≡ closesAfter m closes ⌝ }
+{
+    if m == 7 {
+        return closes + 1;
+    }
+    if m == 15 { closes - 1 } else { closes }
+}
+
+// Whether the mark m is the last of so many closes.
+fn is_end(m: u8, closes: usize) -> bool
+    ensures { λ r. ⌜ r ≡ (eqb m 15 && eqb closes 1) ⌝ }
+{
+    if m == 15 { closes == 1 } else { false }
+}
+
+// Whether two sequences of terms have the same tokens, whatever their spans: most texts that are the same are so told, token by
+// token and up to the first that differs.
+fn same_tokens(a: &[u8], b: &[u8]) -> bool
+    requires { ⌜ TermsAt Mode.pattern (now a) × TermsAt Mode.pattern (now b) ⌝ }
+    ensures { λ r. ⌜ ((t : TermsAt Mode.pattern (now (a .entry))) (u : TermsAt Mode.pattern (now (b .entry))) → r ≡ true → eqBytes (formatTerms (t .terms)) (formatTerms (u .terms)) ≡ true) ⌝ }
+{
+    let mut i: usize = 0;
+    let mut closes: usize = 1;
+    loop {
+        let x = &a[i..];
+        let y = &b[i..];
+        let m = x[0];
+        if m != y[0] {
+            return false;
+        }
+        if is_end(m, closes) {
+            return true;
+        }
+        if !same_letters(x, y) {
+            return false;
+        }
+        closes = closes_after(m, closes);
+        i += token_len(x);
+    }
+}
+
 // Whether the terms at the start of a and those at the start of b have the same text.
 pub fn same_text(a: &[u8], b: &[u8]) -> bool
     requires { ⌜ TermsAt Mode.pattern (now a) × TermsAt Mode.pattern (now b) ⌝ }
     ensures { λ r. ⌜ ((t : TermsAt Mode.pattern (now (a .entry))) (u : TermsAt Mode.pattern (now (b .entry))) → r ≡ eqBytes (formatTerms (t .terms)) (formatTerms (u .terms))) ⌝ }
 {
+    if same_tokens(a, b) {
+        return true;
+    }
     let m = terms_len(a) - 1;
     let n = terms_len(b) - 1;
     let mut i: usize = 0;

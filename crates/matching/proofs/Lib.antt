@@ -2,3 +2,4 @@ pub mod Variables
 pub mod Held
 pub mod Meeting
 pub mod Taking
+pub mod Splitting

@@ -208,7 +208,7 @@ all-void void (y ∷ l) e = absurd (omega arith)
 all-void (atom x w) l e = absurd (let z = symbol-there x (putExpression w (putBehind l)) in omega (arith, z, e))
 all-void (group u w) l e = absurd (omega arith)
 
-ended-close : (p : Terms) (l : List Pair) (rest : List ℕ) → getD (putTerms p (putPatterns l rest)) 0 0 ≡ 15 → (p ≡ nil)
+pub ended-close : (p : Terms) (l : List Pair) (rest : List ℕ) → getD (putTerms p (putPatterns l rest)) 0 0 ≡ 15 → (p ≡ nil)
 unfolding putTerms putSymbol putPatterns
 ended-close nil l rest e = refl
 ended-close (symbol s (Symbol.character c) p) l rest e = absurd (omega arith)
@@ -250,7 +250,7 @@ module _ {body work : List ℕ} {p v end : ℕ} {rest : List ℕ} {x : Pair} {l 
   pub pattern-there : p < length body
   pattern-there = let z = ap length (at .pattern) in let k = terms-length (x .pattern) (putPatterns l rest) in let d = length-drop p body in omega (arith, z, k, d)
 
-  nothing-left : v ≡ end → (x .value ≡ void) × (l ≡ [])
+  pub nothing-left : v ≡ end → (x .value ≡ void) × (l ≡ [])
   nothing-left e = all-void (x .value) l (sym (ap length (at .value)) ∙ (slice-length ∙ (let z : end - v ≡ 0 = omega (arith, e) in z)))
 
   mark-here : getD (drop p body) 0 0 ≡ getD (putTerms (x .pattern) (putPatterns l rest)) 0 0

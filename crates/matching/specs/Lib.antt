@@ -1,2 +1,3 @@
 pub mod Bindings
 pub mod Pairs
+pub mod Takes

@@ -1,3 +1,4 @@
 // Matching a pattern of the body with a value of the state.
 pub mod bindings;
 pub mod steps;
+pub mod taken;

@@ -59,7 +59,7 @@ remaining (c ∷ cs) = further (c .site) (c .taken) (c .left) ++ remaining cs
 first-try : (c : Site) (t v : Expression) → tries c t (record { front = void; rest = v }) ≡ matchesAll (pairsAt c v) (bindingsAt c t)
 first-try c t v = ap (λ (y : Expression). matchesAll (pairsAt c v) (bindingsAt c y)) (⧺-void t)
 
-onward-first : (c : Site) (t v : Expression) → onward c t v ≡ matchesAll (pairsAt c v) (bindingsAt c t) ++ further c t v
+pub onward-first : (c : Site) (t v : Expression) → onward c t v ≡ matchesAll (pairsAt c v) (bindingsAt c t) ++ further c t v
 unfolding onward further splits flatMap _⧺_
 onward-first c t void = ap (λ (y : List Bindings). y ++ []) (first-try c t void)
 onward-first c t (atom x w) =
@@ -191,7 +191,7 @@ from-nothing : (n : Name) (p : Terms) (v : Expression) (l : List Pair) (b : Bind
 unfolding onward _⧺_
 from-nothing n p v l b s e = sym (e-new l b s n p v e)
 
-first-taken : (n : Name) (p : Terms) (v : Expression) (l : List Pair) (b : Bindings) (s : Span) → valueOf e-kind n b ≡ none → onward (site n p l b) (firstTaken p v .front) (firstTaken p v .rest) ≡ matchesAll (pair (variable s e-kind n p) v ∷ l) b
+pub first-taken : (n : Name) (p : Terms) (v : Expression) (l : List Pair) (b : Bindings) (s : Span) → valueOf e-kind n b ≡ none → onward (site n p l b) (firstTaken p v .front) (firstTaken p v .rest) ≡ matchesAll (pair (variable s e-kind n p) v ∷ l) b
 unfolding firstTaken further
 first-taken n nil v l b s e = onward-first (site n nil l b) v void ∙ (append-nil (matchesAll (pair nil void ∷ l) (bound e-kind n v ∷ b)) ∙ (all-ended l (bound e-kind n v ∷ b) ∙ sym (e-last l b s n v e)))
 first-taken n (symbol t a p) v l b s e = from-nothing n (symbol t a p) v l b s e

@@ -111,7 +111,7 @@ numbers : (a b c d : ℕ) (k : List ℕ) → a < 65536 → b < 65536 → c < 655
 unfolding putBinding put16 get16
 numbers a b c d k h g f = (get16-put16 a [] h, get16-put16 b [] g, get16-put16 c [] f)
 
-binding-length : (a b c d : ℕ) → length (putBinding a b c d []) ≡ 8
+pub binding-length : (a b c d : ℕ) → length (putBinding a b c d []) ≡ 8
 unfolding putBinding put16
 binding-length a b c d = refl
 

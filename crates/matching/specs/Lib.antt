@@ -1,3 +1,4 @@
 pub mod Bindings
 pub mod Pairs
 pub mod Takes
+pub mod Binds

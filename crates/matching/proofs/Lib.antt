@@ -3,3 +3,4 @@ pub mod Held
 pub mod Meeting
 pub mod Taking
 pub mod Splitting
+pub mod Choosing

@@ -201,7 +201,7 @@ symbol-there (Symbol.character c) k = omega arith
 symbol-there (Symbol.identifier n) k = omega arith
 symbol-there (Symbol.number n) k = omega arith
 
-all-void : (v : Expression) (l : List Pair) → length (putExpression v (putBehind l)) ≡ 0 → (v ≡ void) × (l ≡ [])
+pub all-void : (v : Expression) (l : List Pair) → length (putExpression v (putBehind l)) ≡ 0 → (v ≡ void) × (l ≡ [])
 unfolding putExpression putBehind
 all-void void [] e = (refl, refl)
 all-void void (y ∷ l) e = absurd (omega arith)

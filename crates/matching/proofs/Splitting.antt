@@ -132,7 +132,7 @@ first-mark (character c) k = (omega arith, omega arith)
 first-mark (identifier n) k = (omega arith, omega arith)
 first-mark (number n) k = (omega arith, omega arith)
 
-value-close : (v : Expression) (l : List Pair) → getD (putExpression v (putBehind l)) 0 0 ≡ 15 → v ≡ void
+pub value-close : (v : Expression) (l : List Pair) → getD (putExpression v (putBehind l)) 0 0 ≡ 15 → v ≡ void
 unfolding putExpression
 value-close void l e = refl
 value-close (atom x w) l e = absurd (let m = first-mark x (putExpression w (putBehind l)) in omega (arith, m .1, e))
@@ -145,7 +145,7 @@ value-bracket void (y ∷ l) e = absurd (omega arith)
 value-bracket (atom x w) l e = absurd (let m = first-mark x (putExpression w (putBehind l)) in omega (arith, m .1, e))
 value-bracket (group u w) l e = (u, w, refl)
 
-value-there : (v : Expression) (l : List Pair) → 0 < length (putExpression v (putBehind l)) → (getD (putExpression v (putBehind l)) 0 0 ≡ 15 → ⊥) → v ≡ void → ⊥
+pub value-there : (v : Expression) (l : List Pair) → 0 < length (putExpression v (putBehind l)) → (getD (putExpression v (putBehind l)) 0 0 ≡ 15 → ⊥) → v ≡ void → ⊥
 unfolding putExpression putBehind
 value-there void [] n h e = absurd (omega arith)
 value-there void (y ∷ l) n h e = h refl

@@ -2,3 +2,4 @@ pub mod Bindings
 pub mod Pairs
 pub mod Takes
 pub mod Binds
+pub mod Choices

@@ -156,7 +156,7 @@ bound-run {body} {work} {new} {top} {frame} {at} {r} b place from until end {k} 
       run-kept a body top frame b (at + 8) h (omega (arith, binding-length place from until end)) run,
     )
 
-number-length : (n : ℕ) → length (put16 n []) ≡ 2
+pub number-length : (n : ℕ) → length (put16 n []) ≡ 2
 unfolding put16
 number-length n = refl
 
@@ -192,3 +192,8 @@ extended-run {body} {work} {new} {top} {frame} {at} {r} b x until {u} e h g j ru
       },
       run-kept a body top frame b (at + 8) (omega (arith, h)) (omega (arith, n)) (run .2),
     )
+
+pub written-number : {work new : List ℕ} {at r : ℕ} (n : ℕ) → Emitted work at (put16 n []) r new → at + 2 ≤ length work → n < 65536 → get16 new at ≡ n
+written-number {work} {new} {at} {r} n e h j =
+    let l : at + length (put16 n []) ≤ length work = (let k = number-length n in omega (arith, k, h)) in
+    ap (get16 new) (sym (add-zero at)) ∙ (number-at new at 0 ∙ (ap (λ (y : List ℕ). get16 y 0) (written-at e l) ∙ number-front n _ j))

@@ -4,3 +4,4 @@ pub mod Meeting
 pub mod Taking
 pub mod Splitting
 pub mod Choosing
+pub mod Extending

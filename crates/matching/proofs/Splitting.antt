@@ -31,16 +31,16 @@ use Rattle.matching.proofs.Held.{Apart, emitted-apart, part-below, bind
 
 -- ---- a front in bytes
 
-front-bytes : (t w : Expression) (k : List ℕ) → putExpression (t ⧺ w) k ≡ putExpression t [] ++ putExpression w k
+pub front-bytes : (t w : Expression) (k : List ℕ) → putExpression (t ⧺ w) k ≡ putExpression t [] ++ putExpression w k
 front-bytes t w k =
     expression-splits (t ⧺ w) k
     ∙ (ap (λ (y : List ℕ). y ++ k) (joined-bytes t w) ∙ (append-assoc (putExpression t []) (putExpression w []) k ∙ ap (λ (y : List ℕ). putExpression t [] ++ y) (sym (expression-splits w k))))
 
-front-size : (t w : Expression) (r : ℕ) → r + bytesOf w ≡ bytesOf (t ⧺ w) → length (putExpression t []) ≡ r
+pub front-size : (t w : Expression) (r : ℕ) → r + bytesOf w ≡ bytesOf (t ⧺ w) → length (putExpression t []) ≡ r
 unfolding bytesOf
 front-size t w r e = let z = ap length (joined-bytes t w) in let a = length-append (putExpression t []) (putExpression w []) in omega (arith, z, a, e)
 
-valid-front : (t w : Expression) → ValidExpression (t ⧺ w) → ValidExpression t × ValidExpression w
+pub valid-front : (t w : Expression) → ValidExpression (t ⧺ w) → ValidExpression t × ValidExpression w
 unfolding _⧺_
 valid-front void w h = (tt, h)
 valid-front (atom x t) w h = let r = valid-front t w (h .1) in ((h .0, r .0), r .1)

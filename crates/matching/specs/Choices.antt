@@ -73,3 +73,8 @@ pub record Newest (body work rest : List ℕ) (top frame stop : ℕ) (cs : List 
 
 abbrev pub NewestAt : List ℕ → List ℕ → List ℕ → ℕ → ℕ → ℕ → List Choice → ℕ → Type 0
 NewestAt body work rest top frame stop cs r = ((r ≡ stop) × (remaining cs ≡ [])) ⊎ ((r < stop) × Newest body work rest top frame stop cs r)
+
+pub record SomeNewest (body work : List ℕ) (top frame stop at : ℕ) : Type 0 where
+  pub rest : List ℕ
+  pub choices : List Choice
+  pub is : Newest body work rest top frame stop choices at

@@ -3,3 +3,4 @@ pub mod Pairs
 pub mod Takes
 pub mod Binds
 pub mod Choices
+pub mod Took

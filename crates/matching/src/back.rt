@@ -1,13 +1,18 @@
 // Back to a choice: the newest `e.` variable that can take a term more.
+use crate::bindings::extend_binding;
+use crate::steps::behind_variable;
 use image::number::read16;
+use values::levels::term_end;
 ghost use mathlib.Core.Path.{_≡_};
 ghost use mathlib.Core.List.{List};
-ghost use Prim.Native.Nat.{ℕ, _≤_};
+ghost use Prim.Native.Nat.{ℕ, _<_, _≤_};
 ghost use lib.ListN.{length};
 ghost use Rattle.meaning.specs.Match.{Bindings};
 ghost use Rattle.meaning.proofs.Searching.{Choice};
 ghost use Rattle.matching.specs.Bindings.{RunAt};
-ghost use Rattle.matching.specs.Choices.{ChoicesAt, SomeChoices, canTake, Readable, NewestAt};
+ghost use Rattle.matching.specs.Choices.{ChoicesAt, SomeChoices, canTake, Readable, Newest, NewestAt, SomeNewest};
+ghost use Rattle.matching.specs.Took.{Took};
+ghost use Rattle.text.specs.Fill.{limit};
 
 // Whether the binding at a place is an `e.` variable's that can take a term more.
 fn can_take(body: &[u8], work: &[u8], at: usize) -> bool
@@ -46,4 +51,32 @@ pub fn newest_choice(
         at += 8;
     }
     at
+}
+
+// Where a search goes on: the pattern from p on, the value from v up to `end`.
+pub struct Place {
+    pub p: usize,
+    pub v: usize,
+    pub end: usize,
+}
+
+// The choice at a place takes one term more.
+pub fn take_more(
+    body: &[u8],
+    work: &mut [u8],
+    top: usize,
+    frame: usize,
+    stop: usize,
+    at: usize,
+) -> Place
+    requires { ⌜ SomeNewest (now body) (now work) top frame stop at × (top ≤ at) × (frame ≤ length (now work)) × (length (now work) ≤ limit) × (top < 65536) ⌝ }
+    ensures { λ r. ⌜ ((rest : List ℕ) (cs : List Choice) → Newest (now (body .entry)) (now (work .entry)) rest top frame stop cs at → Took (now (body .entry)) (now (work .exit)) rest top frame stop cs at r) ⌝ }
+{
+    let place = read16(work, at) as usize;
+    let until = read16(work, at + 4) as usize;
+    let end = read16(work, at + 6) as usize;
+    let more = until + term_end(&work[until..end]);
+    extend_binding(work, at, more);
+    let p = behind_variable(body, place);
+    Place { p, v: more, end }
 }

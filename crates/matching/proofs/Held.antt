@@ -197,3 +197,26 @@ pub written-number : {work new : List ℕ} {at r : ℕ} (n : ℕ) → Emitted wo
 written-number {work} {new} {at} {r} n e h j =
     let l : at + length (put16 n []) ≤ length work = (let k = number-length n in omega (arith, k, h)) in
     ap (get16 new) (sym (add-zero at)) ∙ (number-at new at 0 ∙ (ap (λ (y : List ℕ). get16 y 0) (written-at e l) ∙ number-front n _ j))
+
+-- The numbers of a binding.
+pub record Numbers (work : List ℕ) (at a b c d : ℕ) : Type 0 where
+  pub place : get16 work at ≡ a
+  pub from : get16 work (at + 2) ≡ b
+  pub until : get16 work (at + 4) ≡ c
+  pub end : get16 work (at + 6) ≡ d
+
+last-number : (a b c d : ℕ) (k : List ℕ) → d < 65536 → get16 (putBinding a b c d k) 6 ≡ d
+unfolding putBinding put16 get16
+last-number a b c d k h = get16-put16 d [] h
+
+pub binding-numbers : {work new : List ℕ} {at r : ℕ} (a b c d : ℕ) → Emitted work at (putBinding a b c d []) r new → at + 8 ≤ length work → a < 65536 → b < 65536 → c < 65536 → d < 65536 → Numbers new at a b c d
+binding-numbers {work} {new} {at} {r} a b c d e g ha hb hc hd =
+    let l : at + length (putBinding a b c d []) ≤ length work = (let n = binding-length a b c d in omega (arith, g, n)) in
+    let s : drop at new ≡ putBinding a b c d (drop (at + length (putBinding a b c d [])) work) = written-at e l ∙ binding-front a b c d _ in
+    let m = numbers a b c d (drop (at + length (putBinding a b c d [])) work) ha hb hc in
+    record {
+      place = ap (get16 new) (sym (add-zero at)) ∙ (number-at new at 0 ∙ (ap (λ (x : List ℕ). get16 x 0) s ∙ m .0));
+      from = number-at new at 2 ∙ (ap (λ (x : List ℕ). get16 x 2) s ∙ m .1);
+      until = number-at new at 4 ∙ (ap (λ (x : List ℕ). get16 x 4) s ∙ m .2);
+      end = number-at new at 6 ∙ (ap (λ (x : List ℕ). get16 x 6) s ∙ last-number a b c d (drop (at + length (putBinding a b c d [])) work) hd);
+    }

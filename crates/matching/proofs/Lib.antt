@@ -5,3 +5,4 @@ pub mod Taking
 pub mod Splitting
 pub mod Choosing
 pub mod Extending
+pub mod Bound

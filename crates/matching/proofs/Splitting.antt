@@ -18,16 +18,11 @@ use Rattle.meaning.specs.Records.{bytesOf}
 use Rattle.meaning.proofs.Inputs.{ValidExpression}
 use Rattle.meaning.proofs.Matching.{Pair, pair, bound, matchesAll, s-void, s-atom, s-group, t-void, t-atom, t-group, bind-new}
 use Rattle.meaning.proofs.Searching.{Site, site, onward, firstTaken, onward-first, first-taken}
-use Rattle.text.specs.Fill.{Emitted}
-use Rattle.text.proofs.Fill.{emitted-length}
 use Rattle.values.specs.Values.{restOf}
 use Rattle.matching.specs.Pairs.{PairsAt, putPatterns, putBehind, VariablePair}
 use Rattle.matching.specs.Takes.{furtherIf, Takes}
-use Rattle.matching.specs.Bindings.{putBinding, RunAt}
-use Rattle.matching.specs.Binds.{Binds}
 use Rattle.matching.proofs.Meeting.{slice-length, drop-take, nothing-left, ended-close}
-use Rattle.matching.proofs.Taking.{variable-at}
-use Rattle.matching.proofs.Held.{Apart, emitted-apart, part-below, binding-length, bound-run}
+use Rattle.matching.proofs.Held.{Apart, part-below}
 
 -- ---- a front in bytes
 
@@ -266,27 +261,3 @@ pairs-kept {body} {work} {new} {lo} {hi} {p} {v} {end} a h n at = record {
   valid = at .valid;
   valid-more = at .valid-more;
 }
-
-pub binds :
-    {body work new : List ℕ} {top low p v end r : ℕ} (q : VariablePair body work p v end) (b : Bindings) (frame next until : ℕ)
-    → top + 8 ≤ low → low ≤ length work → end ≤ top → top < 65536 → p < 65536 → low ≤ frame
-    → Takes body work p v end q b until → Emitted work (low - 8) (putBinding p v until end []) r new
-    → drop next body ≡ putTerms (q .behind) (putPatterns (q .more) (q .rest)) → RunAt body work top frame b low
-    → Binds body work new top frame (low - 8) p v end q b next until
-unfolding variable-at
-binds {body} {work} {new} {top} {low} {p} {v} {end} q b frame next until h g f d i j t e n run =
-    let low′ : low - 8 + 8 ≡ low = omega arith in
-    let w = t .within in
-    let o = t .ordered in
-    let len = binding-length p v until end in
-    let a = emitted-apart e (omega (arith, len, low′, g)) in
-    record {
-      taken = t .taken;
-      left = t .left;
-      run =
-          bound-run b p v until end e (omega arith) (omega (arith, low′, g)) (omega (arith, low′, j)) i (omega (arith, w, f, d)) (variable-at q) refl refl
-          (record { ordered = o; within = omega (arith, w, f); is = t .is; valid = t .valid-taken })
-          (subst (RunAt body work top frame b) (sym low′) run);
-      at = pairs-kept a (omega arith) (emitted-length e) (record { pattern = n; value = t .behind; ordered = w; within = q .at .within; valid = (q .at .valid .0 .2, t .valid-left); valid-more = q .at .valid-more });
-      same = t .same;
-    }

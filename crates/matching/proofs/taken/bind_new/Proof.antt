@@ -3,7 +3,7 @@ use mathlib.Core.Path.{refl, subst}
 use borrow.Author.Needs.{needs}
 use Rattle.matching.specs.Takes.{TakesUntil}
 use Rattle.matching.proofs.Taking.{variable-at}
-use Rattle.matching.proofs.Splitting.{binds}
+use Rattle.matching.proofs.Bound.{binds}
 use Rattle.matching.proofs.taken.bind_new.Statement.{statement}
 use Rattle.matching.proofs.taken.bind_new.Tie as tie
 

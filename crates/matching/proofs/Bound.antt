@@ -73,6 +73,7 @@ binds {body} {work} {new} {top} {low} {p} {v} {end} q b frame next until h g f d
     record {
       taken = t .taken;
       left = t .left;
+      fits = t .fits;
       run =
           bound-run b p v until end e (omega arith) (omega (arith, low′, g)) (omega (arith, low′, j)) i (omega (arith, w, f, d)) (variable-at q) refl refl
           (record { ordered = o; within = omega (arith, w, f); is = t .is; valid = t .valid-taken })

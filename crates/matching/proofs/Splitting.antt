@@ -2,6 +2,7 @@
 use Prim.Native.Nat.{ℕ, zero, suc, _+_, _-_, _<_, _≤_}
 use native.Mathlib.Omega.{arith}
 use mathlib.Core.Path.{_≡_, refl, sym, ap, ap₂, subst, _∙_}
+use mathlib.Core.Logic.{inl, inr}
 use mathlib.Core.List.{List, [], _∷_, _++_, append-nil, append-assoc}
 use mathlib.Core.Option.{none}
 use lib.ListN.{length, getD, take, drop, length-drop, length-append}
@@ -10,6 +11,7 @@ use Rattle.program.specs.Syntax.{Span, Name, Kind, s-kind, t-kind, e-kind, Symb
 use Rattle.program.specs.Encode.{putSymbol, kindMark, putTerms}
 use Rattle.program.proofs.Lengths.{terms-length}
 use Rattle.patterns.specs.Expression.{Expression, void, atom, group, _⧺_}
+use Rattle.patterns.specs.Fresh.{Fits}
 use Rattle.patterns.specs.Marks.{zeroSpan, putExpression}
 use Rattle.patterns.proofs.Expression.{⧺-void, void-atom, void-group}
 use Rattle.patterns.proofs.Marks.{expression-splits, joined-bytes}
@@ -52,10 +54,11 @@ module _ {body work : List ℕ} {p v end : ℕ} (q : VariablePair body work p v 
   short = let z = ap length text in let a = length-append (putExpression t []) (putExpression w (putBehind (q .more))) in let n = slice-length (q .at) in let s = sized in let o = q .at .ordered in omega (arith, z, a, n, s, o)
 
   pub takes :
-      matchesAll (pair (variable (q .span) (q .kind) (q .name) (q .behind)) (q .value) ∷ q .more) b
+      Fits (q .kind) t
+      → matchesAll (pair (variable (q .span) (q .kind) (q .name) (q .behind)) (q .value) ∷ q .more) b
       ≡ matchesAll (pair (q .behind) w ∷ q .more) (bound (q .kind) (q .name) t ∷ b) ++ furtherIf (q .kind) (site (q .name) (q .behind) (q .more) b) t w
       → Takes body work p v end q b (v + r)
-  takes e =
+  takes fits e =
       let h = short in
       let f = valid-front t w (subst ValidExpression whole (q .at .valid .1)) in
       let i : v + r - v ≡ r = omega arith in
@@ -67,10 +70,24 @@ module _ {body work : List ℕ} {p v end : ℕ} (q : VariablePair body work p v 
         within = h;
         is = ap (λ (n : ℕ). take n (drop v work)) i ∙ (sym (take-take r (end - v) (drop v work) (omega arith)) ∙ (ap (take r) text ∙ take-at (putExpression t []) (putExpression w (putBehind (q .more))) r sized));
         behind = ap (λ (n : ℕ). take n (drop (v + r) work)) j ∙ (ap (take (end - v - r)) (sym (drop-drop r v work)) ∙ (sym (drop-take r (end - v) (drop v work)) ∙ (ap (drop r) text ∙ drop-at (putExpression t []) (putExpression w (putBehind (q .more))) r sized)));
+        fits = fits;
         valid-taken = f .0;
         valid-left = f .1;
         same = e;
       }
+
+fits-any : (k : Kind) (t : Expression) → k ≡ e-kind → Fits k t
+fits-any k t e = subst (λ (i : Kind). Fits i t) (sym e) tt
+
+fits-atom : (k : Kind) (x : Symbol) → Fits k (atom x void)
+fits-atom s-kind x = (x, refl)
+fits-atom t-kind x = inl (x, refl)
+fits-atom e-kind x = tt
+
+fits-group : (k : Kind) (u : Expression) → (k ≡ s-kind → ⊥) → Fits k (group u void)
+fits-group s-kind u h = absurd (h refl)
+fits-group t-kind u h = inr (u, refl)
+fits-group e-kind u h = tt
 
 -- ---- an `e.` variable
 
@@ -110,14 +127,14 @@ module _ {body work : List ℕ} {p v end : ℕ} (q : VariablePair body work p v 
   pub takes-all : q .behind ≡ nil → (r : ℕ) → r ≡ bytesOf (q .value) → Takes body work p v end q b (v + r)
   takes-all e r f =
       let n = first-nil (q .value) in
-      takes q b (q .value) void (sym (⧺-void (q .value))) r (let z = no-bytes in omega (arith, z, f))
+      takes q b (q .value) void (sym (⧺-void (q .value))) r (let z = no-bytes in omega (arith, z, f)) (fits-any (q .kind) (q .value) kind)
       (kinded q b (q .value) void kind new (ap (λ (i : Terms). firstTaken i (q .value) .front) e ∙ n .0) (ap (λ (i : Terms). firstTaken i (q .value) .rest) e ∙ n .1))
 
   pub takes-nothing : (q .behind ≡ nil → ⊥) → Takes body work p v end q b v
   unfolding _⧺_
   takes-nothing h =
       let n = not-nil (q .behind) (q .value) h in
-      subst (Takes body work p v end q b) (let z : v + 0 ≡ v = omega arith in z) (takes q b void (q .value) refl 0 (omega arith) (kinded q b void (q .value) kind new (n .0) (n .1)))
+      subst (Takes body work p v end q b) (let z : v + 0 ≡ v = omega arith in z) (takes q b void (q .value) refl 0 (omega arith) (fits-any (q .kind) void kind) (kinded q b void (q .value) kind new (n .0) (n .1)))
 
 -- ---- an `s.` or a `t.` variable
 
@@ -234,10 +251,10 @@ module _ {body work : List ℕ} {p v end : ℕ} (q : VariablePair body work p v 
       by : (y : Expression) → q .value ≡ y → Takes body work p v end q b (v + r)
       by void e = absurd (some-term e)
       by (atom x w) e =
-          takes q b (atom x void) w e r (subst (λ (z : Expression). r + bytesOf (restOf z) ≡ bytesOf (q .value)) e size)
+          takes q b (atom x void) w e r (subst (λ (z : Expression). r + bytesOf (restOf z) ≡ bytesOf (q .value)) e size) (fits-atom (q .kind) x)
           (ap (λ (z : Expression). matchesAll (pair (variable (q .span) (q .kind) (q .name) (q .behind)) z ∷ q .more) b) e ∙ one-atom (q .span) (q .kind) (q .name) (q .behind) (q .more) b x w (site (q .name) (q .behind) (q .more) b) kind new)
       by (group u w) e =
-          takes q b (group u void) w e r (subst (λ (z : Expression). r + bytesOf (restOf z) ≡ bytesOf (q .value)) e size)
+          takes q b (group u void) w e r (subst (λ (z : Expression). r + bytesOf (restOf z) ≡ bytesOf (q .value)) e size) (fits-group (q .kind) u (λ k. fits (kind-mark ∙ ap kindMark k) (value-mark ∙ ap (λ (z : Expression). getD (putExpression z (putBehind (q .more))) 0 0) e)))
           (ap (λ (z : Expression). matchesAll (pair (variable (q .span) (q .kind) (q .name) (q .behind)) z ∷ q .more) b) e ∙ one-group (q .span) (q .kind) (q .name) (q .behind) (q .more) b u w (site (q .name) (q .behind) (q .more) b) kind (λ k. fits (kind-mark ∙ ap kindMark k) (value-mark ∙ ap (λ (z : Expression). getD (putExpression z (putBehind (q .more))) 0 0) e)) new)
 
 -- The whole value stands before the end.

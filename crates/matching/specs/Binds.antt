@@ -4,6 +4,7 @@ use mathlib.Core.Path.{_≡_}
 use mathlib.Core.List.{List, [], _∷_, _++_}
 use Rattle.program.specs.Syntax.{Kind, s-kind, t-kind, e-kind, variable}
 use Rattle.patterns.specs.Expression.{Expression}
+use Rattle.patterns.specs.Fresh.{Fits}
 use Rattle.meaning.specs.Match.{Bindings}
 use Rattle.meaning.proofs.Matching.{pair, bound, matchesAll}
 use Rattle.meaning.proofs.Searching.{Choice, choice, site}
@@ -23,6 +24,7 @@ addChoice e-kind c cs = c ∷ cs
 pub record Binds (body work new : List ℕ) (top frame low p v end : ℕ) (q : VariablePair body work p v end) (b : Bindings) (next until : ℕ) : Type 0 where
   pub taken : Expression
   pub left : Expression
+  pub fits : Fits (q .kind) taken
   pub run : RunAt body new top frame (bound (q .kind) (q .name) taken ∷ b) low
   pub at : PairsAt body new next until end (q .rest) (pair (q .behind) left) (q .more)
   pub same :

@@ -5,6 +5,7 @@ use mathlib.Core.List.{List, [], _∷_, _++_}
 use lib.ListN.{take, drop}
 use Rattle.program.specs.Syntax.{Kind, s-kind, t-kind, e-kind, variable}
 use Rattle.patterns.specs.Expression.{Expression}
+use Rattle.patterns.specs.Fresh.{Fits}
 use Rattle.patterns.specs.Marks.{putExpression}
 use Rattle.meaning.specs.Match.{Bindings}
 use Rattle.meaning.proofs.Inputs.{ValidExpression}
@@ -27,6 +28,7 @@ pub record Takes (body work : List ℕ) (p v end : ℕ) (q : VariablePair body w
   pub within : e ≤ end
   pub is : take (e - v) (drop v work) ≡ putExpression taken []
   pub behind : take (end - e) (drop e work) ≡ putExpression left (putBehind (q .more))
+  pub fits : Fits (q .kind) taken
   pub valid-taken : ValidExpression taken
   pub valid-left : ValidExpression left
   pub same :

@@ -2,7 +2,7 @@
 use Prim.Native.Nat.{ℕ, suc, ◌+◌, ◌-◌, ◌≤◌, ◌<◌}
 use native.Mathlib.Omega.{arith}
 use mathlib.Core.Path.{◌≡◌, refl, sym, ap, ap₂, subst, ◌∙◌}
-use mathlib.Core.Bool.{Bool, ◌&&◌, ◌||◌, or_false}
+use mathlib.Core.Bool.{Bool, ◌&&◌, ◌||◌, or-false}
 use mathlib.Core.List.{List, [], ◌∷◌, ◌++◌}
 use lib.Dec.{eqb}
 use lib.ListN.{length, get_or, take, drop, length-drop}
@@ -42,7 +42,7 @@ module _ {image : List ℕ} (a : Accepted image) {m : List ℕ} (p : Plan) {root
   unfolding is_there
   kept_there s l =
       ap (λ (t : Bool). eqb (fell_of p m s) 0 || t) (lt-leb (suc n) (fell_of p m s) (d.removing.below s))
-      ∙ (or_false (eqb (fell_of p m s) 0) ∙ sym (ap (λ (x : List ℕ). is_kept x s) ms-is ∙ (d.marked s ∙ ap (λ (t : Bool). t && eqb (fell_of p m s) 0) (lt-ltb s p.sentences (omega (arith, l, sentences_are))))))
+      ∙ (or-false (eqb (fell_of p m s) 0) ∙ sym (ap (λ (x : List ℕ). is_kept x s) ms-is ∙ (d.marked s ∙ ap (λ (t : Bool). t && eqb (fell_of p m s) 0) (lt-ltb s p.sentences (omega (arith, l, sentences_are))))))
 
   pub none_from : NoneFrom (is_kept ms) (own_sentence_count a.program.functions)
   none_from s l = ap (λ (x : List ℕ). is_kept x s) ms-is ∙ (d.marked s ∙ ap (λ (t : Bool). t && eqb (fell_of p m s) 0) (le-ltb s p.sentences (omega (arith, l, sentences_are))))

@@ -1,4 +1,6 @@
 // The entry points: every image and number is answered, and nothing is asked of the caller.
+#![tactic(auto)]
+
 mod boundary;
 mod delivery;
 mod rounds;

@@ -2,7 +2,7 @@
 use Prim.Native.Nat.{ℕ, suc, ◌+◌, ◌-◌, ◌*◌, ◌/◌, ◌%◌, ◌<◌, ◌≤◌}
 use native.Mathlib.Omega.{arith}
 use mathlib.Core.Path.{◌≡◌, refl, sym, ap, ap₂, subst, ◌∙◌}
-use mathlib.Core.Bool.{Bool, true, false, ◌&&◌, ◌||◌, cond, or-true, or_false, and_false}
+use mathlib.Core.Bool.{Bool, true, false, ◌&&◌, ◌||◌, cond, or-true, or-false, and-false}
 use mathlib.Core.List.{List}
 use lib.Dec.{eqb, ltb}
 use lib.ListN.{length, get_or, set}
@@ -64,14 +64,14 @@ module _ (p : Plan) (m : List ℕ) (s r : ℕ) (before : Bool) where
     fell = sym (ap (λ (t : Bool). cond t r (fell_of p m s)) e);
     place = refl;
     others = none_written m (lines p + s);
-    answer = sym (or_false before) ∙ sym (ap (λ (t : Bool). before || t) e);
+    answer = sym (or-false before) ∙ sym (ap (λ (t : Bool). before || t) e);
   }
 
   pub falls_not : (fell_of p m s ≡ 0 → ⊥) → falls_now m p s ≡ false
   falls_not d = ap (λ (t : Bool). t && is_spent m p s) (ne_eqb (fell_of p m s) 0 d)
 
   pub falls_unspent : (get_or m (witnesses p + s) 0 ≡ p.sites + 1 → ⊥) → falls_now m p s ≡ false
-  falls_unspent d = ap (λ (t : Bool). eqb (fell_of p m s) 0 && t) (ne_eqb (get_or m (witnesses p + s) 0) (suc p.sites) (λ e. d (omega (arith, e)))) ∙ and_false (eqb (fell_of p m s) 0)
+  falls_unspent d = ap (λ (t : Bool). eqb (fell_of p m s) 0 && t) (ne_eqb (get_or m (witnesses p + s) 0) (suc p.sites) (λ e. d (omega (arith, e)))) ∙ and-false (eqb (fell_of p m s) 0)
 
 -- ---- sentences one after another
 
@@ -84,7 +84,7 @@ module _ (p : Plan) (first r : ℕ) (before : Bool) where
         fell = λ s a b. absurd (omega (arith, a, b));
         place = λ s a b. absurd (omega (arith, a, b));
         others = record { length = refl; before = λ k l. refl; after = λ k l. refl };
-        answer = sym (or_false before) ∙ ap (λ (n : ℕ). before || some_number (falls_now m p) first n) z;
+        answer = sym (or-false before) ∙ ap (λ (n : ℕ). before || some_number (falls_now m p) first n) z;
       }
 
   module _ (old one two : List ℕ) (s : ℕ) (d e : Bool) (from : first ≤ s) (within : s < p.sentences) (h : SentencesDropped old one p first s r before d) (g : SentenceDropped one two p s r d e) where
@@ -125,7 +125,7 @@ module _ (p : Plan) (first r : ℕ) (before : Bool) where
         grouped : (t u v : Bool) → ((t || u) || v) ≡ (t || (u || (v || false)))
         grouped true u v = refl
         grouped false true v = refl
-        grouped false false v = sym (or_false v)
+        grouped false false v = sym (or-false v)
 
         fell_by : (t : ℕ) → first ≤ t → t < s + 1 → (u : Bool) → ltb t s ≡ u → fell_of p two t ≡ cond (falls_now old p t) r (fell_of p old t)
         fell_by t a b true q =

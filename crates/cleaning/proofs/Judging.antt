@@ -2,7 +2,7 @@
 use Prim.Native.Nat.{ℕ, suc, ◌+◌, ◌%◌, ◌<◌, ◌≤◌}
 use native.Mathlib.Omega.{arith}
 use mathlib.Core.Path.{◌≡◌, refl, sym, ap, subst, ◌∙◌}
-use mathlib.Core.Bool.{Bool, true, false, ◌&&◌, ◌||◌, not, or-true, or_false, true≢false, false≢true}
+use mathlib.Core.Bool.{Bool, true, false, ◌&&◌, ◌||◌, not, or-true, or-false, true≢false, false≢true}
 use mathlib.Core.List.{List}
 use mathlib.Core.Option.{some}
 use lib.Dec.{eqb, ltb}
@@ -38,7 +38,7 @@ module _ (w : Program) (keep : ℕ → Bool) (m : List ℕ) (p : Plan) (x : Func
   judged_gone e a = record {
     witness = a;
     spent = λ t. absurd (false≢true (sym e ∙ t));
-    answer = sym (or_false before) ∙ sym (ap (λ (t : Bool). before || (t && is_met_by w keep x y)) e);
+    answer = sym (or-false before) ∙ sym (ap (λ (t : Bool). before || (t && is_met_by w keep x y)) e);
   }
 
   module _ (sites : length (sites_of w) ≡ p.sites) (there : keep s ≡ true) where
@@ -53,7 +53,7 @@ module _ (w : Program) (keep : ℕ → Bool) (m : List ℕ) (p : Plan) (x : Func
     judged_met r e h = judged_by_lem r h true (sym (ap (λ (t : Bool). before || t) e ∙ or-true before))
 
     pub judged_unmet : (r : Bool) → r ≡ false → StillMet keep x.name y.pattern (sites_of w) (get_or m (witnesses p + s) 0) r → SentenceJudged w keep m p x s y before before
-    judged_unmet r e h = judged_by_lem r h before (sym (or_false before) ∙ sym (ap (λ (t : Bool). before || t) e))
+    judged_unmet r e h = judged_by_lem r h before (sym (or-false before) ∙ sym (ap (λ (t : Bool). before || t) e))
 
 -- ---- only witnesses are written
 

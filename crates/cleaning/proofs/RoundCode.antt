@@ -2,7 +2,7 @@
 use Prim.Native.Nat.{ℕ, suc, ◌+◌, ◌-◌, ◌/◌, ◌%◌, ◌<◌, ◌≤◌}
 use native.Mathlib.Omega.{arith}
 use mathlib.Core.Path.{◌≡◌, refl, sym, ap, ap₂, subst, ◌∙◌}
-use mathlib.Core.Bool.{Bool, true, false, ◌&&◌, ◌||◌, cond, and_true, and_false, true≢false, false≢true}
+use mathlib.Core.Bool.{Bool, true, false, ◌&&◌, ◌||◌, cond, and-true, and-false, true≢false, false≢true}
 use mathlib.Core.List.{List}
 use mathlib.Core.Option.{some}
 use lib.Dec.{eqb, leb, ltb}
@@ -153,7 +153,7 @@ module _ {b : List ℕ} {w : Program} {old now : List ℕ} {p : Plan} {root r f 
     -- It is judged.
     module _ (other : f ≡ root_place w → ⊥) (judged : is_judged keep x.name (sites_of w) ≡ true) where
       pub skip-none : JudgedUpto w keep now p f x (sentences_before (suc f) w.functions) false → RoundAt b w old now p r (suc f) before
-      skip-none j = skip (λ s y o. ap (λ (t : Bool). rejects_in w keep f x y.pattern && t) (some-none w keep f x is other judged (λ s y o t. j.none refl s y o o.upto t)) ∙ and_false (rejects_in w keep f x y.pattern))
+      skip-none j = skip (λ s y o. ap (λ (t : Bool). rejects_in w keep f x y.pattern && t) (some-none w keep f x is other judged (λ s y o t. j.none refl s y o o.upto t)) ∙ and-false (rejects_in w keep f x y.pattern))
 
       module _ (j : JudgedUpto w keep now p f x (sentences_before (suc f) w.functions) true) {two : List ℕ} {dropped : Bool} (h : SentencesDropped now two p (sentences_before f w.functions) (sentences_before (suc f) w.functions) r before dropped) where
         fell-done : (s : ℕ) (y : Sentence) → Owns w f x s y → fell_of p two s ≡ cond (keep s && (rejects_in w keep f x y.pattern && some_in w keep f x)) r (fell_of p old s)
@@ -169,7 +169,7 @@ module _ {b : List ℕ} {w : Program} {old now : List ℕ} {p : Plan} {root r f 
             by true e =
                 j.spent s y o o.upto e
                 ∙ sym (rejects_judged w keep f x other judged y.pattern)
-                ∙ sym (and_true (rejects_in w keep f x y.pattern))
+                ∙ sym (and-true (rejects_in w keep f x y.pattern))
                 ∙ ap (λ (t : Bool). rejects_in w keep f x y.pattern && t) (sym (some_one w keep f x is other judged (j.one refl)))
 
         pub drop-one : RoundAt b w old two p r (suc f) dropped

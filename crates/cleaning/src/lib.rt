@@ -1,4 +1,6 @@
 // Rounds over the entries of work.
+#![tactic(auto)]
+
 pub mod prepare;
 pub mod root;
 pub mod rounds;

@@ -1,5 +1,7 @@
 // Whether two sequences of terms have the same text, letter by letter on the image's own bytes. An
 // identifier may be spelled as a variable is, so tokens are not compared.
+#![tactic(auto)]
+
 ghost use Rattle.std.specs.Prelude.{◌≡◌, true, cond, ◌&&◌, ◌∷◌, ◌+◌, ◌<◌, ◌≤◌, eqb, length, get_or};
 ghost use Rattle.program.specs.Syntax.{character};
 ghost use Rattle.program.specs.Limits.{Mode};

@@ -1,4 +1,6 @@
 // Cleans the image of each example of data/, compares the report with the stored one, and the image with the text.
+#![tactic(auto)]
+
 mod text;
 
 ghost use Rattle.io.specs.Counts.{IsPrefixLen};

@@ -1,4 +1,6 @@
 // An expression that matches two patterns, written as image records with zero spans.
+#![tactic(auto)]
+
 mod free;
 mod records;
 mod walk;

@@ -20,7 +20,7 @@ use text::emit::put_byte;
 
 // Two patterns, whether they have changed places, the fuel of the search on them, where the rest is written, where the ends that
 // they take stand, and how many of them are known.
-#[derive(Drop)]
+#[derive(Clone, Copy)]
 pub struct Step {
     pub left: usize,
     pub right: usize,

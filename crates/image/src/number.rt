@@ -25,7 +25,7 @@ pub fn read32(s: &[u8], i: usize) -> u32
 }
 
 // A span: where a record stood in the source.
-#[derive(Drop)]
+#[derive(Clone, Copy)]
 pub struct Extent {
     pub start: u32,
     pub end: u32,

@@ -150,7 +150,7 @@ pub fn sentences_start(s: &[u8]) -> usize
     11 + byte_or(s, 10)
 }
 
-#[derive(Drop)]
+#[derive(Clone, Copy)]
 pub enum Found {
     At(usize),
     Nothing,

@@ -1,4 +1,6 @@
 // Reads an image from standard input and says whether it is accepted, or why it is refused.
+#![tactic(auto)]
+
 use libc::{STDIN_FILENO, STDOUT_FILENO};
 use reader::check::Checked;
 

@@ -1,6 +1,6 @@
 -- Which of a function's two lists a site is in.
 use mathlib.Core.Path.{◌≡◌, refl, sym, ap, ap₂, ◌∙◌}
-use mathlib.Core.Bool.{Bool, true, false, ◌&&◌, not, true≢false, and_false, and-eq-true_iff}
+use mathlib.Core.Bool.{Bool, true, false, ◌&&◌, not, true≢false, and-false, and-eq-true_iff}
 use Rattle.program.specs.Syntax.{Name, Function}
 use Rattle.patterns.specs.Names.{same_name}
 use Rattle.patterns.proofs.Names.{same_name_sym, same_name-right}
@@ -21,8 +21,8 @@ module _ (f : Name) (y : Held) where
 
   pub other-kind : (kind : Bool) → kind ≡ is_plain y → is_listed (not kind) f y ≡ false
   unfolding is_listed
-  other-kind true k = ap (λ (t : Bool). is_call_of f y && not t) (sym k) ∙ and_false (is_call_of f y)
-  other-kind false k = ap (λ (t : Bool). is_call_of f y && t) (sym k) ∙ and_false (is_call_of f y)
+  other-kind true k = ap (λ (t : Bool). is_call_of f y && not t) (sym k) ∙ and-false (is_call_of f y)
+  other-kind false k = ap (λ (t : Bool). is_call_of f y && t) (sym k) ∙ and-false (is_call_of f y)
 
   pub listed-call : (kind : Bool) → is_listed kind f y ≡ true → is_call_of f y ≡ true
   unfolding is_listed

@@ -1,4 +1,6 @@
 // Functions, sentences and call sites as entries of work: what no round can change.
+#![tactic(auto)]
+
 pub mod classes;
 pub mod columns;
 pub mod dispatch;
@@ -8,7 +10,7 @@ pub mod names;
 pub mod table;
 
 // How many functions, sentences of their own and call sites a program has: so the columns of work are laid out.
-#[derive(Drop)]
+#[derive(Clone, Copy)]
 pub struct Plan {
     pub functions: usize,
     pub sentences: usize,

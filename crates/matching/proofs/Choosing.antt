@@ -8,7 +8,7 @@ use mathlib.Core.List.{List, [], ◌∷◌, ◌++◌}
 use lib.Dec.{eqb, ltb}
 use lib.ListN.{length, get_or, take, drop, length-drop}
 use lib.Seq.{length-take-le, get_or-drop, get_or-take}
-use borrow.Author.Tests.{eq-eqb, ne_eqb, eqb-true, eqb-false, ltb-true, ltb-false, not_true, not_false}
+use borrow.Author.Tests.{eq-eqb, ne_eqb, eqb-true, eqb-false, ltb-true, ltb-false, not-true, not-false}
 use Rattle.program.specs.Syntax.{Kind, s_kind, t_kind, e_kind}
 use Rattle.program.specs.Bytes.{get16}
 use Rattle.program.specs.Encode.{kind_mark}
@@ -77,7 +77,7 @@ module _ {body work rest : List ℕ} {top at : ℕ} {x : Binding} {b : Bindings}
           (all-void c.left c.site.pending (sym (ap length h.value) ∙ (slice_bytes ∙ (let z : get16 work (at + 6) - get16 work (at + 4) ≡ 0 = omega (arith, k) in z)))).0
       by false e =
           let k = eqb-false (get16 work (at + 4)) (get16 work (at + 6)) e in
-          let g = not_false (eqb (get_or work (get16 work (at + 4)) 0) 15) (can_told body work at m k ∙ f) in
+          let g = not-false (eqb (get_or work (get16 work (at + 4)) 0) 15) (can_told body work at m k ∙ f) in
           value-close c.left c.site.pending (sym (slice_mark (less (get16 work (at + 4)) (get16 work (at + 6)) h.ordered k)) ∙ eqb-true (get_or work (get16 work (at + 4)) 0) 15 g)
 
   pub something_more : can_take body work at ≡ true → c.left ≡ void → ⊥
@@ -85,7 +85,7 @@ module _ {body work rest : List ℕ} {top at : ℕ} {x : Binding} {b : Bindings}
       let m = can_mark body work at f in
       let k : get16 work (at + 4) ≡ get16 work (at + 6) → ⊥ = (λ e. true≢false (sym f ∙ sym (can_not_end body work at m e))) in
       let l = less (get16 work (at + 4)) (get16 work (at + 6)) h.ordered k in
-      let g = not_true (eqb (get_or work (get16 work (at + 4)) 0) 15) (can_told body work at m k ∙ f) in
+      let g = not-true (eqb (get_or work (get16 work (at + 4)) 0) 15) (can_told body work at m k ∙ f) in
       value_there c.left c.site.pending (subst (λ (i : ℕ). 0 < i) (ap length h.value) (subst (λ (i : ℕ). 0 < i) (sym slice_bytes) (omega arith))) (λ e. eqb-false (get_or work (get16 work (at + 4)) 0) 15 g (slice_mark l ∙ e))
 
 -- ---- from one binding to the next

@@ -52,7 +52,7 @@ pub fn newest_choice(
 }
 
 // Where a search goes on: the pattern from p on, the value from v up to `end`.
-#[derive(Drop)]
+#[derive(Clone, Copy)]
 pub struct Place {
     pub p: usize,
     pub v: usize,

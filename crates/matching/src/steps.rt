@@ -13,7 +13,7 @@ use values::levels::{Front, same_front};
 use values::tokens::{same_token, token_len};
 
 // Where a step leads: on at a place in the body and one in the state, or to the end of the pattern.
-#[derive(Drop)]
+#[derive(Clone, Copy)]
 pub enum Met {
     On(usize, usize),
     Matched(usize),

@@ -26,12 +26,12 @@ pub data Compares (w : Program) : Terms → Terms → Type 0 where
 
 sentence-valid : (b : Sentences) (x : Sentence) → ValidSentences b 0 → Memᴰ x (sentence_list b) → ValidTerms x.pattern Mode.pattern 0
 unfolding sentence_list
-sentence-valid empty x v m = absurd (Memᴰ.not_nil m)
+sentence-valid empty x v m = absurd (Memᴰ.not-nil m)
 sentence-valid (sentence h p c r b) x v (Memᴰ.head e) = rw e v.1
 sentence-valid (sentence h p c r b) x v (Memᴰ.tail m) = sentence-valid b x v.4 m
 
 function-valid : (fs : List Function) (f : Function) → ValidFunctions fs → Memᴰ f fs → ValidSentences f.sentences 0
-function-valid [] f v m = absurd (Memᴰ.not_nil m)
+function-valid [] f v m = absurd (Memᴰ.not-nil m)
 function-valid (g ∷ fs) f v (Memᴰ.head e) = rw e v.2
 function-valid (g ∷ fs) f v (Memᴰ.tail m) = function-valid fs f v.3 m
 
@@ -45,11 +45,11 @@ restricted_in (r ∷ l) t m = m
 characterised_in : (b : Bool) (l : List Terms) (t : Terms) → Memᴰ t (restrictions_of (standing false (record { restrictions = l; characterised = b }))) → Memᴰ t l
 unfolding standing restrictions_of
 characterised_in true l t m = restricted_in l t m
-characterised_in false l t m = absurd (Memᴰ.not_nil m)
+characterised_in false l t m = absurd (Memᴰ.not-nil m)
 
 standing_in : (alone : Bool) (e : EnteringRestrictions) (t : Terms) → Memᴰ t (restrictions_of (standing alone e)) → Memᴰ t e.restrictions
 unfolding standing restrictions_of
-standing_in true e t m = absurd (Memᴰ.not_nil m)
+standing_in true e t m = absurd (Memᴰ.not-nil m)
 standing_in false e t m = characterised_in e.characterised e.restrictions t m
 
 standing-plain : (alone : Bool) (f : Function) (sites : List Site) (t : Terms) → Memᴰ t (restrictions_of (standing alone (entering_restrictions f.name sites))) → Plain t
@@ -64,7 +64,7 @@ record ChangeOf (sites : List Site) (fs : List Function) (c : Change) : Type 0 w
 
 change_of : (left : LeftAlone) (sites : List Site) (i : ℕ) (fs : List Function) (c : Change) → Memᴰ c (changes left sites i fs) → ChangeOf sites fs c
 unfolding changes change
-change_of left sites i [] c m = absurd (Memᴰ.not_nil m)
+change_of left sites i [] c m = absurd (Memᴰ.not-nil m)
 change_of left sites i (f ∷ fs) c (Memᴰ.head e) = rw e (record { within = Memᴰ.head refl; alone = left i f; stands = refl })
 change_of left sites i (f ∷ fs) c (Memᴰ.tail m) =
     let h = change_of left sites (suc i) fs c m in

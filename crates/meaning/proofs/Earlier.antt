@@ -67,7 +67,7 @@ module _ {A : Type 0} (same : A → A → Bool) (trans : (x y z : A) → same x 
 
   pub firsts_new : (l : List A) → ((x : A) → Memᴰ x l → same x x ≡ true) → firsts same l ≡ new_after same [] l
   unfolding firsts
-  firsts_new l r = firsts_after_new l [] [] r (λ y m. absurd (Memᴰ.not_nil m), λ z m. m)
+  firsts_new l r = firsts_after_new l [] [] r (λ y m. absurd (Memᴰ.not-nil m), λ z m. m)
 
 -- Passing the test is transitive, and arguments without calls and blocks pass it with themselves.
 repeats_trans : (x y z : Terms) → same_configuration x y ≡ true → same_configuration y z ≡ true → same_configuration x z ≡ true

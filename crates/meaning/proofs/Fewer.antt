@@ -52,6 +52,7 @@ change_fewer j f = kept_fewer (accepted j f.sentences) f.sentences (accepted_few
 
 fewer_valid : (b d : Sentences) (n : ℕ) → Fewer b d → ValidSentences b n → ValidSentences d n
 fewer_valid empty empty n Fewer.nothing v = v
+fewer_valid empty (sentence _ _ _ _ d) n x v = elim x [ ]
 fewer_valid (sentence h p c r b) (sentence _ _ _ _ d) n (Fewer.keeps l) v = (v.0, v.1, v.2, v.3, fewer_valid b d n l v.4)
 fewer_valid (sentence h p c r b) d n (Fewer.drops l) v = fewer_valid b d n l v.4
 
@@ -77,6 +78,7 @@ one-splits h p c r k =
 fewer_shorter : (b d : Sentences) (a k : List ℕ) → Fewer b d → length a ≤ length k → length (put_sentences d a) ≤ length (put_sentences b k)
 unfolding put_sentences
 fewer_shorter empty empty a k Fewer.nothing l = omega (arith, l)
+fewer_shorter empty (sentence _ _ _ _ d) a k x l = elim x [ ]
 fewer_shorter (sentence h p c r b) (sentence _ _ _ _ d) a k (Fewer.keeps q) l = behind-longer (put_one h p c r) (one-splits h p c r) (put_sentences d a) (put_sentences b k) (fewer_shorter b d a k q l)
 fewer_shorter (sentence h p c r b) d a k (Fewer.drops q) l = le_trans (fewer_shorter b d a k q l) (before-longer (put_one h p c r) (one-splits h p c r) (put_sentences b k))
 
@@ -153,7 +155,7 @@ all_up_to (suc n) alone p v =
     (record { valid = unfold round in v; is = unfold round in refl }, all_cond alone (drops_nothing r) (rounds_up_to n alone (left_by r)) (all_up_to n alone (left_by r) (round-valid alone p v)))
 
 one_of_all : (alone : LeftAlone) (l : List Round) (r : Round) → AllRounds alone l → Memᴰ r l → RoundOf alone r
-one_of_all alone [] r h m = absurd (Memᴰ.not_nil m)
+one_of_all alone [] r h m = absurd (Memᴰ.not-nil m)
 one_of_all alone (x ∷ l) r h (Memᴰ.head e) = rw e h.0
 one_of_all alone (x ∷ l) r h (Memᴰ.tail m) = one_of_all alone l r h.1 m
 

@@ -12,7 +12,7 @@ Some P l = (x : _) × Memᴰ x l × P x
 
 pub all-at : {A : Type 0} (test : A → Bool) (l : List A) (x : A) → all test l ≡ true → Memᴰ x l → test x ≡ true
 unfolding all
-all-at test [] x e m = absurd (Memᴰ.not_nil m)
+all-at test [] x e m = absurd (Memᴰ.not-nil m)
 all-at test (y ∷ l) x e (Memᴰ.head q) = ap test q ∙ ((and-eq-true_iff (test y) (all test l)).0 e).0
 all-at test (y ∷ l) x e (Memᴰ.tail m) = all-at test l x ((and-eq-true_iff (test y) (all test l)).0 e).1 m
 
@@ -31,7 +31,7 @@ module _ {A : Type 0} (P : A → Type 0) where
 
 pub in_any : {A : Type 0} (test : A → Bool) (l : List A) (x : A) → Memᴰ x l → test x ≡ true → any test l ≡ true
 unfolding any
-in_any test [] x m e = absurd (Memᴰ.not_nil m)
+in_any test [] x m e = absurd (Memᴰ.not-nil m)
 in_any test (y ∷ l) x (Memᴰ.head q) e = ap (λ (t : Bool). t || any test l) (sym (ap test q) ∙ e)
 in_any test (y ∷ l) x (Memᴰ.tail m) e = ap (λ (t : Bool). test y || t) (in_any test l x m e) ∙ or-true (test y)
 
@@ -52,7 +52,7 @@ in_select test (y ∷ l) x e (Memᴰ.tail m) = in_either (test y) x y (select te
 
 pub select_passes : {A : Type 0} (test : A → Bool) (l : List A) (x : A) → Memᴰ x (select test l) → test x ≡ true
 unfolding select
-select_passes test [] x m = absurd (Memᴰ.not_nil m)
+select_passes test [] x m = absurd (Memᴰ.not-nil m)
 select_passes test (y ∷ l) x m = passes (test y) refl m (select_passes test l x)
   where
     first_passes : test y ≡ true → Memᴰ x (y ∷ select test l) → (Memᴰ x (select test l) → test x ≡ true) → test x ≡ true
@@ -99,7 +99,7 @@ module _ {A : Type 0} (same : A → A → Bool) (P : A → Type 0) (shared : (y 
 
   firsts_after-some : (seen l : List A) (x : A) → Memᴰ x l → P x → Some P seen ⊎ Some P (firsts_after same seen l)
   unfolding firsts_after
-  firsts_after-some seen [] x m p = absurd (Memᴰ.not_nil m)
+  firsts_after-some seen [] x m p = absurd (Memᴰ.not-nil m)
   firsts_after-some seen (y ∷ l) x (Memᴰ.head e) p =
       new_some (any (λ z. same z y) seen) seen y (firsts_after same seen l) (firsts_after same (y ∷ seen) l) (λ h. any_some P (λ z. same z y) seen h (λ z t. shared z y t (rw e at p))) (rw e at p)
   firsts_after-some seen (y ∷ l) x (Memᴰ.tail m) p =
@@ -110,5 +110,5 @@ module _ {A : Type 0} (same : A → A → Bool) (P : A → Type 0) (shared : (y 
   firsts-some l x m p = later (firsts_after-some [] l x m p)
     where
       later : Some P [] ⊎ Some P (firsts_after same [] l) → Some P (firsts_after same [] l)
-      later (inl s) = absurd (Memᴰ.not_nil s.1)
+      later (inl s) = absurd (Memᴰ.not-nil s.1)
       later (inr s) = s

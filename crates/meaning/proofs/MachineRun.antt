@@ -41,7 +41,7 @@ any-holds : Holds Any
 any-holds = record { noted = λ e s i. i; weighed = λ w s i. i }
 
 module _ (watch : Watch) where
-  pub reach_trans : {p : Program} {l m n : Machine} → Reach watch p m l → Reach watch p n m → Reach watch p n l
+  pub reach_trans : {p : Program} {m l n : Machine} → Reach watch p m l → Reach watch p n m → Reach watch p n l
   reach_trans {p = p} {n = n} (here e) h = subst (λ (x : Machine). Reach watch p n x) (sym e) h
   reach_trans (more r) h = more (reach_trans r h)
 

@@ -120,7 +120,7 @@ module _ (watch : Watch) where
   step_adds p (halted e s) = inl refl
 
   -- A machine on the way to a halt comes to it.
-  meet : {p : Program} {l m : Machine} (e : Stop) (s : Load) → Reach watch p (halted e s) l → Reach watch p m l → Reach watch p (halted e s) m
+  meet : {p : Program} {m l : Machine} (e : Stop) (s : Load) → Reach watch p (halted e s) l → Reach watch p m l → Reach watch p (halted e s) m
   unfolding step
   meet {p = p} e s r (here h) = subst (λ (x : Machine). Reach watch p (halted e s) x) h r
   meet {p = p} e s (here k) (more r) = meet e s (here (ap (step watch p) k)) r

@@ -1,4 +1,6 @@
 // The cleaned image.
+#![tactic(auto)]
+
 pub mod bytes;
 pub mod left;
 pub mod mark;

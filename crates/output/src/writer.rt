@@ -55,7 +55,7 @@ fn kept_one(s: &[u8], marks: &[u32], i: usize) -> usize
 }
 
 // Where the functions that were written end, and how many sentences they have.
-#[derive(Drop)]
+#[derive(Clone, Copy)]
 pub struct Written {
     pub end: usize,
     pub sentences: usize,

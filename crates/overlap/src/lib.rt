@@ -1,4 +1,6 @@
 // The overlap search on two patterns, which stand at places of one body.
+#![tactic(auto)]
+
 mod search;
 mod terms;
 pub mod way;

@@ -19,7 +19,7 @@ use patterns::Verdict;
 use symbols::same_symbol;
 
 // What was found, if it is done, and how many ends and bracket pairs may still be tried.
-#[derive(Drop)]
+#[derive(Clone, Copy)]
 pub struct Tried {
     pub done: bool,
     pub verdict: Verdict,

@@ -17,7 +17,7 @@ use patterns::Verdict;
 use symbols::same_symbol;
 
 // A split behind some heads: what follows its `e.` variable, what that takes from, and the fuel left.
-#[derive(Drop)]
+#[derive(Clone, Copy)]
 pub struct Opening {
     pub rest: usize,
     pub other: usize,
@@ -25,7 +25,7 @@ pub struct Opening {
 }
 
 // Where the heads of two patterns lead.
-#[derive(Drop)]
+#[derive(Clone, Copy)]
 pub enum Lead {
     Stuck,
     Met,
@@ -34,7 +34,7 @@ pub enum Lead {
 }
 
 // The search after a turn: whether it goes on, the patterns in turn with their fuel, and how many splits are open.
-#[derive(Drop)]
+#[derive(Clone, Copy)]
 pub struct Turn {
     pub going: bool,
     pub left: usize,

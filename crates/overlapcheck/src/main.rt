@@ -1,5 +1,7 @@
 // Reads an image from standard input and compares the patterns of its first two sentences, or of its
 // first with itself where it has only one.
+#![tactic(auto)]
+
 use answers::OverlapAnswer;
 use libc::{STDIN_FILENO, STDOUT_FILENO};
 use patterns::Verdict;

@@ -3,7 +3,7 @@ use Prim.Native.Nat.{ℕ, suc, ◌+◌, ◌<◌, ◌≤◌}
 use native.Mathlib.Numerals.{add-one}
 use mathlib.Core.Path.{◌≡◌, refl, ap, sym, ◌∙◌}
 use mathlib.Core.List.{List, [], ◌∷◌}
-use mathlib.Core.Bool.{Bool, true, false, and_false}
+use mathlib.Core.Bool.{Bool, true, false, and-false}
 use lib.ListN.{length, drop, get_or, drop_of_length-le, length-map, get_or-map}
 use lib.Seq.{drop-cons}
 use borrow.Author.Tests.{eq-eqb, ne_eqb}
@@ -27,7 +27,7 @@ unfolding eq_bytes
 bytes_lengths [] [] h = absurd (h refl)
 bytes_lengths [] (y ∷ b) h = refl
 bytes_lengths (x ∷ a) [] h = refl
-bytes_lengths (x ∷ a) (y ∷ b) h = rw (bytes_lengths a b (λ e. h (ap suc e)), and_false)
+bytes_lengths (x ∷ a) (y ∷ b) h = rw (bytes_lengths a b (λ e. h (ap suc e)), and-false)
 
 -- The same of names once case is gone; x and y are the small letters of their bytes at i.
 pub caseless-length : (a : List ℕ) → length (caseless a) ≡ length a

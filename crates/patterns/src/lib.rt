@@ -1,6 +1,8 @@
 // Symbols, patterns, and whether one expression can match two of them: definitions and theorems, and the types that code shares with them.
 // The answer to whether one expression can match two patterns.
-#[derive(Drop)]
+#![tactic(auto)]
+
+#[derive(Clone, Copy)]
 pub enum Verdict {
     Disjoint,
     Overlap,
@@ -8,14 +10,14 @@ pub enum Verdict {
 }
 
 // A verdict, with the fuel that is left.
-#[derive(Drop)]
+#[derive(Clone, Copy)]
 pub struct Found {
     pub verdict: Verdict,
     pub fuel: u32,
 }
 
 // What comparing two names says: whether they are the same, and how many pairs of bytes were compared.
-#[derive(Drop)]
+#[derive(Clone, Copy)]
 pub struct NameComparison {
     pub equal: bool,
     pub compared: usize,

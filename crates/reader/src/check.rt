@@ -106,21 +106,21 @@ fn first_next(n: usize, m: u8, k: u8, left: usize, f: usize) -> usize
 }
 
 // What the trailer has to agree with.
-#[derive(Drop)]
+#[derive(Clone, Copy)]
 pub struct Counts {
     pub functions: usize,
     pub sentences: usize,
     pub first: usize,
 }
 
-#[derive(Drop)]
+#[derive(Clone, Copy)]
 pub enum Tally {
     Refused(Refusal),
     Counted(Counts),
 }
 
 // What lies below all frames, and what was counted so far.
-#[derive(Drop)]
+#[derive(Clone, Copy)]
 pub struct Progress {
     pub bottom: u8,
     pub functions: usize,
@@ -211,7 +211,7 @@ pub fn check_body(b: &[u8]) -> Tally
     tallied(top, c, b.len())
 }
 
-#[derive(Drop)]
+#[derive(Clone, Copy)]
 pub enum Checked {
     Refused(Refusal),
     Accepted,

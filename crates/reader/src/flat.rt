@@ -84,7 +84,7 @@ fn is_terms(c: u16) -> bool
 }
 
 // How many frames are left, and the place.
-#[derive(Drop)]
+#[derive(Clone, Copy)]
 pub struct Spot {
     pub n: usize,
     pub at: usize,

@@ -1,4 +1,6 @@
 // The reader: checks a whole image, and says which refusal it meets first.
+#![tactic(auto)]
+
 pub mod check;
 pub mod flat;
 pub mod rules;

@@ -7,14 +7,14 @@ use crate::rules::{code_refusal, name_refusal, span_refusal, wide};
 use program::Refusal;
 
 // A frame of the reader's stack: its kind, and a depth or a count.
-#[derive(Drop)]
+#[derive(Clone, Copy)]
 pub struct Frame {
     pub kind: u8,
     pub arg: u8,
 }
 
 // What a turn of the reader leads to: the next place, and n frames that take the place of the one on top, e0 deepest.
-#[derive(Drop)]
+#[derive(Clone, Copy)]
 pub struct Push {
     pub to: usize,
     pub n: usize,
@@ -24,7 +24,7 @@ pub struct Push {
     pub e3: Frame,
 }
 
-#[derive(Drop)]
+#[derive(Clone, Copy)]
 pub enum Step {
     Refuse(Refusal),
     Go(Push),

@@ -157,7 +157,7 @@ pub record InOf (fell : ℕ → ℕ) (r : ℕ) (x : Function) (i : ℕ) (b : Sen
 module _ (fell : ℕ → ℕ) (r : ℕ) (x : Function) where
   in_of : (b : Sentences) (i : ℕ) (z : Fallen) → Memᴰ z (fallen_of fell r x i b) → InOf fell r x i b z
   unfolding fallen_of sentence_count sentence_list
-  in_of empty i z m = absurd (Memᴰ.not_nil m)
+  in_of empty i z m = absurd (Memᴰ.not-nil m)
   in_of (sentence h p c q b) i z m = by (eqb (fell i) r) refl m (in_of b (suc i) z)
     where
       first : Fallen
@@ -239,7 +239,7 @@ pub record InAll (fell : ℕ → ℕ) (r i : ℕ) (fs : List Function) (z : Fall
 module _ (fell : ℕ → ℕ) (r : ℕ) where
   in_all : (fs : List Function) (i : ℕ) (z : Fallen) → Memᴰ z (fallen_in fell r i fs) → InAll fell r i fs z
   unfolding fallen_in sentences_before
-  in_all [] i z m = absurd (Memᴰ.not_nil m)
+  in_all [] i z m = absurd (Memᴰ.not-nil m)
   in_all (x ∷ fs) i z m = by (Memᴰ.append_cases (fallen_of fell r x i x.sentences) m) (in_all fs (i + sentence_count x.sentences) z)
     where
       by : Memᴰ z (fallen_of fell r x i x.sentences) ⊎ Memᴰ z (fallen_in fell r (i + sentence_count x.sentences) fs) → (Memᴰ z (fallen_in fell r (i + sentence_count x.sentences) fs) → InAll fell r (i + sentence_count x.sentences) fs z)
@@ -282,7 +282,7 @@ module _ (w : Program) (fell : ℕ → ℕ) where
   -- What is in the list of n rounds, the first of them r.
   pub in_rounds : (n r : ℕ) (z : Fallen) → Memᴰ z (fallen_from w fell r n) → (r ≤ z.round) × (z.round < r + n) × InAll fell z.round 0 w.functions z
   unfolding fallen_from
-  in_rounds zero r z m = absurd (Memᴰ.not_nil m)
+  in_rounds zero r z m = absurd (Memᴰ.not-nil m)
   in_rounds (suc n) r z m = by (Memᴰ.append_cases (fallen_in fell r 0 w.functions) m) (in_rounds n (suc r) z)
     where
       by : Memᴰ z (fallen_in fell r 0 w.functions) ⊎ Memᴰ z (fallen_from w fell (suc r) n) → (Memᴰ z (fallen_from w fell (suc r) n) → (suc r ≤ z.round) × (z.round < suc r + n) × InAll fell z.round 0 w.functions z)
@@ -312,7 +312,7 @@ module _ (w : Program) (fell : ℕ → ℕ) where
   unfolding is_repeated any
   first_fallen n =
       fallen_new (fallen_from w fell 1 n)
-      ∙ sorted_new (fallen_from w fell 1 n) (fallen_from w fell 1 n) [] (sorted_rounds n 1) (λ u z p q. absurd (Memᴰ.not_nil p)) (λ test. refl)
+      ∙ sorted_new (fallen_from w fell 1 n) (fallen_from w fell 1 n) [] (sorted_rounds n 1) (λ u z p q. absurd (Memᴰ.not-nil p)) (λ test. refl)
 
 -- ---- a sentence that fell, by function and number
 

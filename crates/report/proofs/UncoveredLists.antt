@@ -2,7 +2,7 @@
 use Prim.Native.Nat.{ℕ, zero, suc, ◌+◌, ◌-◌, ◌<◌, ◌≤◌}
 use native.Mathlib.Omega.{arith}
 use mathlib.Core.Path.{◌≡◌, refl, sym, ap, ap₂, ◌∙◌}
-use mathlib.Core.Bool.{Bool, true, false, ◌&&◌, not, cond, or_false, and-eq-true_iff}
+use mathlib.Core.Bool.{Bool, true, false, ◌&&◌, not, cond, or-false, and-eq-true_iff}
 use mathlib.Core.List.{List, [], ◌∷◌, ◌++◌, map, flatten}
 use mathlib.Core.Option.{Option, none, some}
 use borrow.Author.Tests.{ltb-true, ltb-false, eqb-true}
@@ -63,7 +63,7 @@ module _ (w : Program) (g t : ℕ) (x : Function) (y : Held) where
   module _ (u : Function) (v : Held) (e : get_elem? w.functions g ≡ some u) (k : get_elem? (sites_of w) t ≡ some v) where
     repeats_is : any (λ z. same_uncovered z (uncovered_one x y)) (last_uncovered w g t) ≡ (eq_bytes u.name x.name && eq_bytes (format_terms v.site.argument) (format_terms y.site.argument))
     unfolding any same_uncovered uncovered_one
-    repeats_is = ap (any (λ z. same_uncovered z (uncovered_one x y))) (last-is w g t u v e k) ∙ or_false (eq_bytes u.name x.name && eq_bytes (format_terms v.site.argument) (format_terms y.site.argument))
+    repeats_is = ap (any (λ z. same_uncovered z (uncovered_one x y))) (last-is w g t u v e k) ∙ or-false (eq_bytes u.name x.name && eq_bytes (format_terms v.site.argument) (format_terms y.site.argument))
 
     pub repeats_other : eq_bytes u.name x.name ≡ false → false ≡ any (λ z. same_uncovered z (uncovered_one x y)) (last_uncovered w g t)
     repeats_other h = sym (repeats_is ∙ ap (λ (a : Bool). a && eq_bytes (format_terms v.site.argument) (format_terms y.site.argument)) h)

@@ -2,7 +2,7 @@
 use Prim.Native.Nat.{ℕ, suc, ◌+◌, ◌≤◌}
 use native.Mathlib.Omega.{arith}
 use mathlib.Core.Path.{◌≡◌, refl, sym, ap, ap₂, ◌∙◌}
-use mathlib.Core.Bool.{Bool, true, false, ◌&&◌, not, cond, or_false}
+use mathlib.Core.Bool.{Bool, true, false, ◌&&◌, not, cond, or-false}
 use mathlib.Core.List.{List, [], ◌∷◌, ◌++◌, map, flatten, append_assoc}
 use mathlib.Core.Option.{Option, none, some}
 use lib.ListN.{length, get_elem?}
@@ -48,7 +48,7 @@ module _ (w : Program) (g t : ℕ) (x : Function) (y : Sentence) where
   module _ (u : Function) (v : Sentence) (e : get_elem? w.functions g ≡ some u) (k : get_elem? (own_sentences w.functions) t ≡ some v) where
     repeats_is : any (λ z. same_undecided z (undecided_one x y)) (last_undecided w g t) ≡ (eq_bytes u.name x.name && eq_bytes (format_terms v.pattern) (format_terms y.pattern))
     unfolding any same_undecided undecided_one
-    repeats_is = ap (any (λ z. same_undecided z (undecided_one x y))) (last-is w g t u v e k) ∙ or_false (eq_bytes u.name x.name && eq_bytes (format_terms v.pattern) (format_terms y.pattern))
+    repeats_is = ap (any (λ z. same_undecided z (undecided_one x y))) (last-is w g t u v e k) ∙ or-false (eq_bytes u.name x.name && eq_bytes (format_terms v.pattern) (format_terms y.pattern))
 
     pub repeats_other : eq_bytes u.name x.name ≡ false → false ≡ any (λ z. same_undecided z (undecided_one x y)) (last_undecided w g t)
     repeats_other h = sym (repeats_is ∙ ap (λ (a : Bool). a && eq_bytes (format_terms v.pattern) (format_terms y.pattern)) h)

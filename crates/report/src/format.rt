@@ -22,7 +22,7 @@ use text::counts::{put_count_line, put_graph, put_top};
 use text::writer::{Writer, with_graph, with_top, with_unchanged};
 
 // The numbers of a report: sentences left, the lines of its lists, the names that are uncharacterised, and the bytes of those.
-#[derive(Drop)]
+#[derive(Clone, Copy)]
 pub struct Figures {
     pub after: usize,
     pub removed: usize,

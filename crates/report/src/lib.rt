@@ -1,4 +1,6 @@
 // The report's lines, from the entries of work.
+#![tactic(auto)]
+
 pub mod alike;
 pub mod decided;
 pub mod format;

@@ -21,7 +21,7 @@ use index::table::head_site;
 use text::emit::{put_byte, put_bytes};
 
 // The place after the line so far, and how many names it has.
-#[derive(Drop)]
+#[derive(Clone, Copy)]
 pub struct Named {
     pub at: usize,
     pub count: usize,

@@ -25,7 +25,7 @@ use index::Plan;
 use text::emit::{put_byte, put_bytes};
 
 // Where the lines end, and how many there are.
-#[derive(Drop)]
+#[derive(Clone, Copy)]
 pub struct Listing {
     pub at: usize,
     pub count: usize,

@@ -29,7 +29,7 @@ use text::emit::put_byte;
 
 // The place after the lines so far, how many they are, and the last candidate: its function, and which of the
 // sentences, or of the sites, it is; their count, while there is none.
-#[derive(Drop)]
+#[derive(Clone, Copy)]
 pub struct Listed {
     pub at: usize,
     pub count: usize,

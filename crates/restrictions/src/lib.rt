@@ -1,4 +1,6 @@
 // Call sites and the restrictions that they make, on an image's own bytes.
+#![tactic(auto)]
+
 ghost use Rattle.std.specs.Prelude.{◌≡◌, List, ℕ, ◌+◌, ◌<◌, ◌≤◌, length, drop};
 ghost use Rattle.program.specs.Encode.{put_terms};
 ghost use Rattle.program.specs.Limits.{Mode};
@@ -72,7 +74,7 @@ pub fn entry_of(p: usize, sentence: usize) -> u32
 }
 
 // The place past a walk's records, in the bytes that it was given, and how many sites are listed by then.
-#[derive(Drop)]
+#[derive(Clone, Copy)]
 pub struct Walk {
     pub at: usize,
     pub count: usize,

@@ -1,4 +1,6 @@
 // The overlap verdict of two patterns by rows: the cost and the verdict of every pair of their tails, from the ends backwards.
+#![tactic(auto)]
+
 mod numbers;
 mod table;
 mod terms;

@@ -87,7 +87,7 @@ pub fn list_terms(b: &[u8], p: usize, at: usize, room: &mut [u32]) -> usize
 }
 
 // Where the list of a second pattern begins, and the entry behind both lists, or 0 if there are too few.
-#[derive(Drop)]
+#[derive(Clone, Copy)]
 pub struct Second {
     pub at: usize,
     pub row: usize,

@@ -1,4 +1,6 @@
 // Reads an image from standard input, cleans it, and prints the report of the cleaning.
+#![tactic(auto)]
+
 ghost use Rattle.io.specs.Counts.{IsPrefixLen};
 
 use answers::CleanAnswer;

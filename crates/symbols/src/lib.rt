@@ -1,4 +1,6 @@
 // Equality of names and symbols on an image's own bytes.
+#![tactic(auto)]
+
 ghost use Rattle.std.specs.Prelude.{◌≡◌, ◌≤◌, length, drop};
 ghost use Rattle.patterns.specs.Names.{lower, eq_bytes, same_name, compare_names};
 ghost use Rattle.patterns.specs.Symbols.{significant, same_symbol};

@@ -1,4 +1,6 @@
 // The text of the report.
+#![tactic(auto)]
+
 pub mod counts;
 pub mod emit;
 pub mod terms;

@@ -1,7 +1,7 @@
 -- What a round asks of the sites collected once is what the restrictions of the program that is left say.
 use Prim.Native.Nat.{ℕ}
 use mathlib.Core.Path.{◌≡◌, refl, sym, ap, ap₂, fun_ext, ◌∙◌}
-use mathlib.Core.Bool.{Bool, true, false, ◌&&◌, ◌||◌, not, cond, true≢false, false≢true, and-eq-true_iff, and_true}
+use mathlib.Core.Bool.{Bool, true, false, ◌&&◌, ◌||◌, not, cond, true≢false, false≢true, and-eq-true_iff, and-true}
 use mathlib.Core.List.{List, [], ◌∷◌, map}
 use Rattle.program.specs.Syntax.{Name, Terms}
 use Rattle.patterns.specs.Names.{same_name}
@@ -120,7 +120,7 @@ module _ (keep : ℕ → Bool) (f : Name) (sites : List Held) where
 
   pub restricted-is : is_restricted (entering_restrictions f (kept_sites keep sites)).restrictions ≡ any (restricts keep f) sites
   unfolding is_restricted
-  restricted-is = restrictions-any (λ a. true) (λ a b e. refl) ∙ ap (λ (g : Held → Bool). any g sites) (fun_ext (λ x. and_true (restricts keep f x)))
+  restricted-is = restrictions-any (λ a. true) (λ a b e. refl) ∙ ap (λ (g : Held → Bool). any g sites) (fun_ext (λ x. and-true (restricts keep f x)))
 
   -- "Disjoint from every restriction of its function": of repeats one verdict stands for all.
   pub disjoint_is : (p : Terms) → all (λ r. is_disjoint (patterns_overlap p r)) (entering_restrictions f (kept_sites keep sites)).restrictions ≡ not (any (meets keep f p) sites)

@@ -60,7 +60,7 @@ pub fn term_end(s: &[u8]) -> usize
 }
 
 // How far an expression's terms equal those of another.
-#[derive(Drop)]
+#[derive(Clone, Copy)]
 pub enum Front {
     Until(usize),
     Nowhere,

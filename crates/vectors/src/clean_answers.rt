@@ -12,7 +12,7 @@ const LENT_ENTRY: u32 = 2779096485;
 
 // A record: the length of the image that follows (0: the image before stays), the lent lengths, the
 // answer, and whether the cleaned image and the report follow (otherwise those before stay).
-#[derive(Drop)]
+#[derive(Clone, Copy)]
 struct Question {
     len: usize,
     output: usize,
@@ -23,7 +23,7 @@ struct Question {
 }
 
 // Document 01's numbers for an answer; the lengths are 0 where it is a refusal.
-#[derive(Drop)]
+#[derive(Clone, Copy)]
 struct Values {
     number: u8,
     place: usize,

@@ -7,7 +7,7 @@ use answers::ExpressionAnswer;
 
 // A record: the length of the image that follows (0: the image before stays), the two sentence
 // numbers, the length of the lent slice, and the answer.
-#[derive(Drop)]
+#[derive(Clone, Copy)]
 struct Question {
     len: usize,
     first: usize,
@@ -17,7 +17,7 @@ struct Question {
 }
 
 // The numbers of an answer; verdict, spent and length are 0 where it is a refusal.
-#[derive(Drop)]
+#[derive(Clone, Copy)]
 struct Values {
     number: u8,
     verdict: u8,

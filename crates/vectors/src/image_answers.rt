@@ -5,7 +5,7 @@ use reader::check::Checked;
 
 // A record: the length of the image that follows (0: the image before stays), one byte to change for
 // this question alone, and the answer.
-#[derive(Drop)]
+#[derive(Clone, Copy)]
 struct Question {
     len: usize,
     position: usize,

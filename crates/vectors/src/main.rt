@@ -1,4 +1,6 @@
 // Replays the stored questions of each file of data/ and compares each answer with the stored one.
+#![tactic(auto)]
+
 mod clean_answers;
 mod expression_answers;
 mod image_answers;
@@ -10,7 +12,7 @@ use libc::STDOUT_FILENO;
 use records::Asked;
 
 // Whose answers a file holds.
-#[derive(Drop)]
+#[derive(Clone, Copy)]
 enum Kind {
     Names,
     Image,
@@ -37,7 +39,7 @@ fn ask_next(
     }
 }
 
-#[derive(Drop)]
+#[derive(Clone, Copy)]
 struct Replayed {
     asked: u64,
     first_wrong: u64,

@@ -6,7 +6,7 @@ use patterns::Verdict;
 
 // A record: the length of the image that follows (0: the image before stays), the two sentence
 // numbers, and the answer.
-#[derive(Drop)]
+#[derive(Clone, Copy)]
 struct Question {
     len: usize,
     first: usize,
@@ -15,7 +15,7 @@ struct Question {
 }
 
 // Document 01's numbers for an answer; verdict and spent are 0 where it is a refusal.
-#[derive(Drop)]
+#[derive(Clone, Copy)]
 struct Values {
     number: u8,
     verdict: u8,

@@ -2,7 +2,7 @@
 ghost use Rattle.io.specs.Counts.{IsPrefixLen};
 
 // What became of a record: the length of its image, and whether the answer was the stored one.
-#[derive(Drop)]
+#[derive(Clone, Copy)]
 pub enum Asked {
     Ended,
     Answered(usize, bool),

@@ -3,7 +3,7 @@ use Prim.Native.Nat.{ℕ, suc, ◌+◌}
 use native.Mathlib.Omega.{arith}
 use mathlib.Core.Path.{◌≡◌, sym, ap, ◌∙◌}
 use mathlib.Core.List.{List}
-use borrow.Author.Tests.{not_true, not_false}
+use borrow.Author.Tests.{not-true, not-false}
 use lib.ListN.{length}
 use Rattle.program.specs.Syntax.{Program}
 use Rattle.told.specs.Numbered.{sentences_before}
@@ -54,7 +54,7 @@ returns-2 : tie.Need-returns-2
 returns-2 c w old r a =
     let x = function-at c.before.before.before.before.before.before w old r in
     let g = c.before.is-judged in
-    skip_passed r a x.element x.is (sym (g.ensures c.before.before.before.before.before.before.args.b.now w x.element (indexed-at r a) x.is) ∙ not_true g.result c.if2.true)
+    skip_passed r a x.element x.is (sym (g.ensures c.before.before.before.before.before.before.args.b.now w x.element (indexed-at r a) x.is) ∙ not-true g.result c.if2.true)
 
 first-sentence-requires : tie.Need-first-sentence-requires
 first-sentence-requires c κs = (body c.before.before.before.before.before.before.before, omega (arith, c.before.before.before.before.before.before.before.requires.1))
@@ -91,9 +91,9 @@ returns-3 c w old r a =
     let d = indexed-at r a in
     let g = c.before.before.before.before.before.before.before.before.before.before.is-judged in
     let j = c.before.before.before.judge in
-    judged_none r a x.element x.is c.before.before.before.before.before.before.before.before.before.before.before.before.if1.false (sym (g.ensures c.before.before.before.before.before.before.before.before.before.before.before.before.before.before.before.args.b.now w x.element d x.is) ∙ not_false g.result c.before.before.before.before.before.before.before.before.before.if2.false)
+    judged_none r a x.element x.is c.before.before.before.before.before.before.before.before.before.before.before.before.if1.false (sym (g.ensures c.before.before.before.before.before.before.before.before.before.before.before.before.before.before.before.args.b.now w x.element d x.is) ∙ not-false g.result c.before.before.before.before.before.before.before.before.before.if2.false)
     (first-is c.before.before.before.before.before.before.before w d) (end_is c.before.before.before.before.before w d) j.ensures.1
-    (j.ensures.0 w x.element d x.is (witnessed-at r a) (first-is c.before.before.before.before.before.before.before w d) (end_is c.before.before.before.before.before w d)) (not_true j.result c.if3.true)
+    (j.ensures.0 w x.element d x.is (witnessed-at r a) (first-is c.before.before.before.before.before.before.before w d) (end_is c.before.before.before.before.before w d)) (not-true j.result c.if3.true)
 
 drop-rejected-requires : tie.Need-drop-rejected-requires
 drop-rejected-requires c κs =
@@ -119,9 +119,9 @@ returns-4 c w old r a =
     let d = indexed-at r a in
     let g = c.before.before.before.before.before.before.before.before.before.before.before.before.before.before.is-judged in
     let j = c.before.before.before.before.before.before.before.judge in
-    judged_one r a x.element x.is c.before.before.before.before.before.before.before.before.before.before.before.before.before.before.before.before.if1.false (sym (g.ensures c.before.before.before.before.before.before.before.before.before.before.before.before.before.before.before.before.before.before.before.args.b.now w x.element d x.is) ∙ not_false g.result c.before.before.before.before.before.before.before.before.before.before.before.before.before.if2.false)
+    judged_one r a x.element x.is c.before.before.before.before.before.before.before.before.before.before.before.before.before.before.before.before.if1.false (sym (g.ensures c.before.before.before.before.before.before.before.before.before.before.before.before.before.before.before.before.before.before.before.args.b.now w x.element d x.is) ∙ not-false g.result c.before.before.before.before.before.before.before.before.before.before.before.before.before.if2.false)
     (first-is c.before.before.before.before.before.before.before.before.before.before.before w d) (end_is c.before.before.before.before.before.before.before.before.before w d) j.ensures.1
-    (j.ensures.0 w x.element d x.is (witnessed-at r a) (first-is c.before.before.before.before.before.before.before.before.before.before.before w d) (end_is c.before.before.before.before.before.before.before.before.before w d)) (not_false j.result c.before.before.before.before.if3.false) c.before.before.drop-rejected.ensures
+    (j.ensures.0 w x.element d x.is (witnessed-at r a) (first-is c.before.before.before.before.before.before.before.before.before.before.before w d) (end_is c.before.before.before.before.before.before.before.before.before w d)) (not-false j.result c.before.before.before.before.if3.false) c.before.before.drop-rejected.ensures
 
 pub clean-function-spec : {M : Type 1} → statement M
 clean-function-spec =

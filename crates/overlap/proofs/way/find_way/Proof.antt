@@ -3,7 +3,7 @@ use Prim.Native.Nat.{◌+◌, ◌*◌, ◌<◌, ◌≤◌}
 use native.Mathlib.Omega.{arith}
 use mathlib.Core.Path.{◌∙◌}
 use lib.ListN.{length, drop}
-use borrow.Author.Tests.{not_true, not_false}
+use borrow.Author.Tests.{not-true, not-false}
 use Rattle.program.specs.Limits.{Mode}
 use Rattle.image.specs.Parts.{TermsAt}
 use Rattle.rows.specs.Rows.{Kept}
@@ -43,24 +43,24 @@ returns c =
     let h = c.before.before.before.before.before.before in
     let s = start_of h in
     let t = c.before.before.before.before.take-turn in (
-      ((t.ensures.0 s.args.fuel s.args.left s.args.right h.loop.invariant.4).1 (not_true _ c.if1.true), omega (arith, t.ensures.1.0.1, h.loop.invariant.0.length)),
+      ((t.ensures.0 s.args.fuel s.args.left s.args.right h.loop.invariant.4).1 (not-true _ c.if1.true), omega (arith, t.ensures.1.0.1, h.loop.invariant.0.length)),
       kept_then h.loop.invariant.0 t.ensures.1.1,
     )
 
 loop-less : tie.Need-loop-smaller invariant-loop decreases-loop
-loop-less c = omega (arith, (c.before.before.before.before.take-turn.ensures.1.0.0 (not_false _ c.if1.false)).less)
+loop-less c = omega (arith, (c.before.before.before.before.take-turn.ensures.1.0.0 (not-false _ c.if1.false)).less)
 
 loop-again : tie.Need-loop-preserved invariant-loop decreases-loop
 loop-again c =
     let h = c.before.before.before.before.before.before in
     let s = start_of h in
     let t = c.before.before.before.before.take-turn in
-    let g = t.ensures.1.0.0 (not_false _ c.if1.false) in (
+    let g = t.ensures.1.0.0 (not-false _ c.if1.false) in (
       kept_then h.loop.invariant.0 t.ensures.1.1,
       omega (arith, t.ensures.1.0.1, t.ensures.1.1.length),
       g.first,
       g.second,
-      (t.ensures.0 s.args.fuel s.args.left s.args.right h.loop.invariant.4).0 (not_false _ c.if1.false),
+      (t.ensures.0 s.args.fuel s.args.left s.args.right h.loop.invariant.4).0 (not-false _ c.if1.false),
     )
 
 pub find-way-spec : {M : Type 1} → statement M

@@ -5,7 +5,7 @@ use mathlib.Core.Path.{◌≡◌, sym, ◌∙◌, subst}
 use mathlib.Core.List.{List}
 use lib.ListN.{length, get_or, drop}
 use borrow.Author.Rules.{rules}
-use borrow.Author.Tests.{not_true, not_false}
+use borrow.Author.Tests.{not-true, not-false}
 use Rattle.program.specs.Limits.{Mode}
 use Rattle.program.specs.Encode.{put_terms}
 use Rattle.image.specs.Parts.{Passes, TermsAt, tail}
@@ -239,7 +239,7 @@ returns-5 c =
     let g = given h in (
       subst (λ (r : Lead). Told (body h) s.args.fuel s.args.left s.args.right r) (sym c.lead-of3.ensures)
           (heads-end g (in-loop d) (mi d) (ni d) (mj d) (nj d) q.result (q.ensures.0 (head-of_first g (in-loop d) (mi d) (ni d)) (head-of-second g (in-loop d) (mi d) (ni d) (mj d) (nj d)))
-          (sym c.before.before.is-overlap.ensures ∙ not_true _ c.before.if5.true)),
+          (sym c.before.before.is-overlap.ensures ∙ not-true _ c.before.if5.true)),
       kept_then h.loop.inv.0 q.ensures.1,
     )
 
@@ -255,7 +255,7 @@ loop-again c =
     let g = given h in (
       kept_then h.loop.inv.0 q.ensures.1,
       heads-on g (in-loop d) (mi d) (ni d) (mj d) (nj d) q.result (q.ensures.0 (head-of_first g (in-loop d) (mi d) (ni d)) (head-of-second g (in-loop d) (mi d) (ni d) (mj d) (nj d)))
-          (sym c.before.is-overlap.ensures ∙ not_false _ c.if5.false) e.before.term-len.result (fits e.before) (passes e.before) e.term-len2.result (fits-2 e) (passes-2 e),
+          (sym c.before.is-overlap.ensures ∙ not-false _ c.if5.false) e.before.term-len.result (fits e.before) (passes e.before) e.term-len2.result (fits-2 e) (passes-2 e),
     )
 
 same-length-6 : tie.Need-same-length-6 invariant-loop decreases-loop

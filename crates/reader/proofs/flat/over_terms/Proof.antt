@@ -1,7 +1,7 @@
 -- `reader::flat::over_terms` meets its contract. Assumes nothing.
 use borrow.Author.Rules.{rules}
 use native.Mathlib.Omega.{arith}
-use borrow.Author.Tests.{not_false}
+use borrow.Author.Tests.{not-false}
 use Rattle.reader.specs.Tally.{Stops}
 use Rattle.reader.proofs.Passing.{spot, stops_first, stops_flat, stops-close, stops_then}
 use Rattle.reader.proofs.flat.over_terms.Statement.{statement}
@@ -41,13 +41,13 @@ shared-slice-read-if2 : tie.Need-shared-slice-read-if2 invariant-loop decreases-
 shared-slice-read-if2 c = c.before.flat-terms.ensures.1
 
 returns-2 : tie.Need-returns-2 invariant-loop decreases-loop
-returns-2 c = stops_flat c.before.before.before.before.before.before.before.before.before.before.args.b.now c.before.before.before.before.before.before.before.before.before.before.args.s.now c.before.before.before.before.before.before.before.before.before.before.args.top c.before.before.before.before.before.before.before.before.before.before.args.at c.before.before.before.before.before.before.before.loop.n c.before.before.before.before.before.before.before.loop.p c.before.before.flat-terms.result c.before.before.before.before.before.before.before.loop.invariant c.before.before.before.before.before.before.loop-test.true (c.before.before.before.before.is-terms.ensures (not_false _ c.before.before.before.if1.false)) c.before.before.flat-terms.ensures
+returns-2 c = stops_flat c.before.before.before.before.before.before.before.before.before.before.args.b.now c.before.before.before.before.before.before.before.before.before.before.args.s.now c.before.before.before.before.before.before.before.before.before.before.args.top c.before.before.before.before.before.before.before.before.before.before.args.at c.before.before.before.before.before.before.before.loop.n c.before.before.before.before.before.before.before.loop.p c.before.before.flat-terms.result c.before.before.before.before.before.before.before.loop.invariant c.before.before.before.before.before.before.loop-test.true (c.before.before.before.before.is-terms.ensures (not-false _ c.before.before.before.if1.false)) c.before.before.flat-terms.ensures
 
 sub-if3 : tie.Need-overflow-sub-if3 invariant-loop decreases-loop
 sub-if3 c = omega (arith, c.before.before.flat-terms.ensures.1)
 
 returns-3 : tie.Need-returns-3 invariant-loop decreases-loop
-returns-3 c = stops_flat c.before.before.before.before.before.before.before.before.before.before.before.args.b.now c.before.before.before.before.before.before.before.before.before.before.before.args.s.now c.before.before.before.before.before.before.before.before.before.before.before.args.top c.before.before.before.before.before.before.before.before.before.before.before.args.at c.before.before.before.before.before.before.before.before.loop.n c.before.before.before.before.before.before.before.before.loop.p c.before.before.before.flat-terms.result c.before.before.before.before.before.before.before.before.loop.invariant c.before.before.before.before.before.before.before.loop-test.true (c.before.before.before.before.before.is-terms.ensures (not_false _ c.before.before.before.before.if1.false)) c.before.before.before.flat-terms.ensures
+returns-3 c = stops_flat c.before.before.before.before.before.before.before.before.before.before.before.args.b.now c.before.before.before.before.before.before.before.before.before.before.before.args.s.now c.before.before.before.before.before.before.before.before.before.before.before.args.top c.before.before.before.before.before.before.before.before.before.before.before.args.at c.before.before.before.before.before.before.before.before.loop.n c.before.before.before.before.before.before.before.before.loop.p c.before.before.before.flat-terms.result c.before.before.before.before.before.before.before.before.loop.invariant c.before.before.before.before.before.before.before.loop-test.true (c.before.before.before.before.before.is-terms.ensures (not-false _ c.before.before.before.before.if1.false)) c.before.before.before.flat-terms.ensures
 
 sub-n : tie.Need-overflow-sub-n invariant-loop decreases-loop
 sub-n c = search rules
@@ -59,7 +59,7 @@ loop-less : tie.Need-loop-smaller invariant-loop decreases-loop
 loop-less c = omega arith
 
 loop-again : tie.Need-loop-preserved invariant-loop decreases-loop
-loop-again c = stops-close c.before.before.before.before.before.before.before.before.before.before.before.args.b.now c.before.before.before.before.before.before.before.before.before.before.before.args.s.now c.before.before.before.before.before.before.before.before.before.before.before.args.top c.before.before.before.before.before.before.before.before.before.before.before.args.at c.before.before.before.before.before.before.before.before.loop.n c.before.before.before.flat-terms.result (stops_flat c.before.before.before.before.before.before.before.before.before.before.before.args.b.now c.before.before.before.before.before.before.before.before.before.before.before.args.s.now c.before.before.before.before.before.before.before.before.before.before.before.args.top c.before.before.before.before.before.before.before.before.before.before.before.args.at c.before.before.before.before.before.before.before.before.loop.n c.before.before.before.before.before.before.before.before.loop.p c.before.before.before.flat-terms.result c.before.before.before.before.before.before.before.before.loop.invariant c.before.before.before.before.before.before.before.loop-test.true (c.before.before.before.before.before.is-terms.ensures (not_false _ c.before.before.before.before.if1.false)) c.before.before.before.flat-terms.ensures) c.before.before.before.before.before.before.before.loop-test.true (c.before.before.before.before.before.is-terms.ensures (not_false _ c.before.before.before.before.if1.false)) c.before.if2.false c.if3.false
+loop-again c = stops-close c.before.before.before.before.before.before.before.before.before.before.before.args.b.now c.before.before.before.before.before.before.before.before.before.before.before.args.s.now c.before.before.before.before.before.before.before.before.before.before.before.args.top c.before.before.before.before.before.before.before.before.before.before.before.args.at c.before.before.before.before.before.before.before.before.loop.n c.before.before.before.flat-terms.result (stops_flat c.before.before.before.before.before.before.before.before.before.before.before.args.b.now c.before.before.before.before.before.before.before.before.before.before.before.args.s.now c.before.before.before.before.before.before.before.before.before.before.before.args.top c.before.before.before.before.before.before.before.before.before.before.before.args.at c.before.before.before.before.before.before.before.before.loop.n c.before.before.before.before.before.before.before.before.loop.p c.before.before.before.flat-terms.result c.before.before.before.before.before.before.before.before.loop.invariant c.before.before.before.before.before.before.before.loop-test.true (c.before.before.before.before.before.is-terms.ensures (not-false _ c.before.before.before.before.if1.false)) c.before.before.before.flat-terms.ensures) c.before.before.before.before.before.before.before.loop-test.true (c.before.before.before.before.before.is-terms.ensures (not-false _ c.before.before.before.before.if1.false)) c.before.if2.false c.if3.false
 
 returns-4 : tie.Need-returns-4 invariant-loop decreases-loop
 returns-4 c = c.before.loop.invariant

@@ -2,7 +2,7 @@
 use borrow.Author.Rules.{rules}
 use native.Mathlib.Omega.{arith}
 use Prim.Native.Nat.{◌+◌, ◌-◌, ◌≤◌}
-use borrow.Author.Tests.{not_true, not_false}
+use borrow.Author.Tests.{not-true, not-false}
 use lib.ListN.{length}
 use Rattle.reader.proofs.Refusals.{Passed, scan-start, scan_cut, scan-wrong, scan-more, scan_fine}
 use Rattle.reader.proofs.rules.scan_refusal.Statement.{statement}
@@ -36,7 +36,7 @@ add-t13 : tie.Need-overflow-add-t13 invariant-loop decreases-loop
 add-t13 c = omega arith
 
 returns-2 : tie.Need-returns-2 invariant-loop decreases-loop
-returns-2 c = scan-wrong _ _ _ _ _ c.before.before.before.before.loop-test.true (omega arith) c.before.is-allowed.ensures (not_true _ c.if2.true) c.before.before.before.before.before.loop.invariant.2
+returns-2 c = scan-wrong _ _ _ _ _ c.before.before.before.before.loop-test.true (omega arith) c.before.is-allowed.ensures (not-true _ c.if2.true) c.before.before.before.before.before.loop.invariant.2
 
 add-i : tie.Need-overflow-add-i invariant-loop decreases-loop
 add-i c = omega arith
@@ -45,7 +45,7 @@ loop-less : tie.Need-loop-smaller invariant-loop decreases-loop
 loop-less c = omega arith
 
 loop-again : tie.Need-loop-preserved invariant-loop decreases-loop
-loop-again c = (omega arith, omega arith, scan-more _ _ _ _ _ c.before.before.before.before.loop-test.true (omega arith) c.before.is-allowed.ensures (not_false _ c.if2.false) c.before.before.before.before.before.loop.invariant.2)
+loop-again c = (omega arith, omega arith, scan-more _ _ _ _ _ c.before.before.before.before.loop-test.true (omega arith) c.before.is-allowed.ensures (not-false _ c.if2.false) c.before.before.before.before.before.loop.invariant.2)
 
 returns-3 : tie.Need-returns-3 invariant-loop decreases-loop
 returns-3 c = scan_fine _ _ _ _ _ c.loop-test.false c.before.loop.invariant.2

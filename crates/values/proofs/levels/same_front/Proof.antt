@@ -4,7 +4,7 @@ use mathlib.Core.List.{[]}
 use native.Mathlib.Omega.{arith}
 use mathlib.Core.Path.{sym, ◌∙◌}
 use borrow.Author.Rules.{rules}
-use borrow.Author.Tests.{not_true, not_false}
+use borrow.Author.Tests.{not-true, not-false}
 use lib.ListN.{length, take, drop}
 use Rattle.symbols.proofs.Parts.{part_rest}
 use Rattle.meaning.proofs.Inputs.{tokens_of}
@@ -67,7 +67,7 @@ returns-2 c = λ u v.
     let g = c.before.before.before.before.if1.false in
     let t = token-at a l.i p.left_a p.is_a h x q in
     let w = token-at b l.j p.left_b p.is_b g y r in
-    front-nowhere u v (stepped_off p h g x y q r t w (sym (c.before.same-token.ensures t w) ∙ not_true _ c.if2.true))
+    front-nowhere u v (stepped_off p h g x y q r t w (sym (c.before.same-token.ensures t w) ∙ not-true _ c.if2.true))
 
 token-len-requires : tie.Need-token-len-requires invariant-loop decreases-loop
 token-len-requires c κs =
@@ -130,7 +130,7 @@ loop-again c =
     let w = token-at b l.j p.left_b p.is_b g y r in (
       omega (arith, (token-room a l.i x q t).1, c.before.token-len.ensures t),
       omega (arith, (token-room b l.j y r w).1, c.token-len2.ensures w),
-      λ u v. stepped_on (l.invariant.2 u v) h g x y q r t w (sym (c.before.before.before.same-token.ensures t w) ∙ not_false _ c.before.before.if2.false) c.before.token-len.result c.token-len2.result (c.before.token-len.ensures t) (c.token-len2.ensures w),
+      λ u v. stepped_on (l.invariant.2 u v) h g x y q r t w (sym (c.before.before.before.same-token.ensures t w) ∙ not-false _ c.before.before.if2.false) c.before.token-len.result c.token-len2.result (c.before.token-len.ensures t) (c.token-len2.ensures w),
     )
 
 returns-3 : tie.Need-returns-3 invariant-loop decreases-loop

@@ -2,7 +2,7 @@
 use Prim.Native.Nat.{ℕ, ◌-◌, ◌<◌, ◌≤◌}
 use native.Mathlib.Omega.{arith}
 use mathlib.Core.Path.{◌≡◌, sym, ap, ◌∙◌, subst}
-use borrow.Author.Tests.{not_true, not_false}
+use borrow.Author.Tests.{not-true, not-false}
 use lib.ListN.{length}
 use Rattle.program.specs.Limits.{Mode}
 use Rattle.image.specs.Parts.{TermsAt}
@@ -62,7 +62,7 @@ module _ (t : ℕ) where
 
   -- An end was not done.
   pub returns-2 : lts.Need-returns-2 (claims t) (at t) absorbing-split.Post Inv-loop μ-loop
-  returns-2 c = (λ u v d. not_both d c.stopped2.ensures, λ a. not_both (c.before.before.before.sequence.ensures.1 a) (not_true _ c.before.if2.true))
+  returns-2 c = (λ u v d. not_both d c.stopped2.ensures, λ a. not_both (c.before.before.before.sequence.ensures.1 a) (not-true _ c.before.if2.true))
 
   pub is-overlap-requires : lts.Need-is-overlap-requires (claims t) (at t) absorbing-split.Post Inv-loop μ-loop
   is-overlap-requires c κs = tt
@@ -72,7 +72,7 @@ module _ (t : ℕ) where
       let q = c.before.before.before.before.sequence in (
         λ u v d.
             let r = c.before.before.before.before.before.before.before.before.loop.invariant.1 u v in
-            sym (split_meets r (found_of q.result) (q.ensures.0 u r.there (not_false _ c.before.before.if2.false)) (sym c.before.is-overlap.ensures ∙ c.if3.true)),
+            sym (split_meets r (found_of q.result) (q.ensures.0 u r.there (not-false _ c.before.before.if2.false)) (sym c.before.is-overlap.ensures ∙ c.if3.true)),
         q.ensures.1,
       )
 
@@ -92,7 +92,7 @@ module _ (t : ℕ) where
             let r = c.before.before.before.before.before.before.before.before.before.before.before.before.loop.invariant.1 u v in
             ended-answers c.ended.ensures d
             ∙ ap (λ (w : Verdict). found w q.result.fuel) c.before.before.before.remember.ensures
-            ∙ sym (split_ends r (found_of q.result) (q.ensures.0 u r.there (not_false _ c.before.before.before.before.before.before.if2.false)) (sym c.before.before.before.before.before.is-overlap.ensures ∙ c.before.before.before.before.if3.false) c.before.if4.true),
+            ∙ sym (split_ends r (found_of q.result) (q.ensures.0 u r.there (not-false _ c.before.before.before.before.before.before.if2.false)) (sym c.before.before.before.before.before.is-overlap.ensures ∙ c.before.before.before.before.if3.false) c.before.if4.true),
         λ a. ended-done c.ended.ensures,
       )
 
@@ -127,5 +127,5 @@ module _ (t : ℕ) where
         λ u v.
             let r = h.loop.invariant.1 u v in
             subst (λ (w : Verdict). Splitting c.before.before.before.before.before.before.before.before.before.before.before.before.before.before.before.before.before.args.fuel (part h.loop.x.now i.result) q.result.fuel w u.terms v.terms) (sym c.before.before.before.before.remember.ensures)
-            (split_goes_on r (found_of q.result) (q.ensures.0 u r.there (not_false _ c.before.before.before.before.before.before.before.if2.false)) (sym c.before.before.before.before.before.before.is-overlap.ensures ∙ c.before.before.before.before.before.if3.false) c.before.before.if4.false i.result (i.ensures Mode.pattern r.there)),
+            (split_goes_on r (found_of q.result) (q.ensures.0 u r.there (not-false _ c.before.before.before.before.before.before.before.if2.false)) (sym c.before.before.before.before.before.before.is-overlap.ensures ∙ c.before.before.before.before.before.if3.false) c.before.before.if4.false i.result (i.ensures Mode.pattern r.there)),
       )

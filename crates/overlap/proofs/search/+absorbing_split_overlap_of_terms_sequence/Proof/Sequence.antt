@@ -2,7 +2,7 @@
 use Prim.Native.Nat.{ℕ, ◌+◌, ◌-◌, ◌<◌, ◌≤◌}
 use native.Mathlib.Omega.{arith}
 use mathlib.Core.Path.{◌≡◌, refl, sym, ap, ◌∙◌, subst}
-use borrow.Author.Tests.{not_true, not_false}
+use borrow.Author.Tests.{not-true, not-false}
 use lib.ListN.{length}
 use Rattle.program.specs.Limits.{Mode}
 use Rattle.image.specs.Parts.{TermsAt}
@@ -199,7 +199,7 @@ module _ (t : ℕ) where
 
   -- The comparison was not done.
   pub returns-5 : lts.Need-returns-5 (claims t) (at t) sequence.Post Inv-loop μ-loop
-  returns-5 c = (λ u v d. not_both d c.stopped.ensures, λ a. not_both (c.before.before.before.overlap-of-terms.ensures.1 a) (not_true _ c.before.if5.true))
+  returns-5 c = (λ u v d. not_both d c.stopped.ensures, λ a. not_both (c.before.before.before.overlap-of-terms.ensures.1 a) (not-true _ c.before.if5.true))
 
   pub is-disjoint-requires : lts.Need-is-disjoint-requires (claims t) (at t) sequence.Post Inv-loop μ-loop
   is-disjoint-requires c κs = tt
@@ -217,7 +217,7 @@ module _ (t : ℕ) where
             let m' = c.before.before.before.before.before.before.before.before.if2.false in
             let n' = c.before.before.before.before.before.before.if4.false in
             ended-answers c.ended3.ensures d
-            ∙ sym (heads-apart r (some c.before.before.before.before.before.before.before.before.before.before.before.before) m n m' n' q.result.verdict (q.ensures.0 (head_at r.first m n) (head_at r.second m' n') (not_false _ c.before.before.before.if5.false)) (sym c.before.before.is-disjoint.ensures ∙ c.before.if6.true)),
+            ∙ sym (heads-apart r (some c.before.before.before.before.before.before.before.before.before.before.before.before) m n m' n' q.result.verdict (q.ensures.0 (head_at r.first m n) (head_at r.second m' n') (not-false _ c.before.before.before.if5.false)) (sym c.before.before.is-disjoint.ensures ∙ c.before.if6.true)),
         λ a. ended-done c.ended3.ensures,
       )
 
@@ -273,7 +273,7 @@ module _ (t : ℕ) where
         λ u v.
             let r = h.loop.invariant.1 u v in
             subst (λ (w : Verdict). Reached c.before.before.before.before.before.before.before.before.before.before.before.before.before.before.before.before.before.before.before.before.args.fuel (part h.loop.x.now i.result) (part h.loop.y.now j.result) (h.loop.f - 1) w u.terms v.terms) (sym c.before.before.before.before.remember.ensures)
-            (heads-passed r (some c.before.before.before.before.before.before.before.before.before.before.before.before.before.before.before.before) m n m' n' q.result.verdict (q.ensures.0 (head_at r.first m n) (head_at r.second m' n') (not_false _ c.before.before.before.before.before.before.before.if5.false)) (sym c.before.before.before.before.before.before.is-disjoint.ensures ∙ c.before.before.before.before.before.if6.false)
+            (heads-passed r (some c.before.before.before.before.before.before.before.before.before.before.before.before.before.before.before.before) m n m' n' q.result.verdict (q.ensures.0 (head_at r.first m n) (head_at r.second m' n') (not-false _ c.before.before.before.before.before.before.before.if5.false)) (sym c.before.before.before.before.before.before.is-disjoint.ensures ∙ c.before.before.before.before.before.if6.false)
             i.result (i.ensures Mode.pattern r.first) j.result (j.ensures Mode.pattern r.second)),
       )
 

@@ -3,7 +3,7 @@ use Prim.Native.Nat.{ℕ, ◌+◌, ◌-◌, ◌*◌, ◌≤◌}
 use native.Mathlib.Omega.{arith}
 use mathlib.Core.Path.{refl, ap, ◌∙◌}
 use lib.ListN.{length}
-use borrow.Author.Tests.{not_true, not_false}
+use borrow.Author.Tests.{not-true, not-false}
 use Rattle.patterns.specs.Search.{size}
 use Rattle.rows.specs.Rows.{listed_at, Lists}
 use Rattle.rows.proofs.Places.{kept_same, kept_then}
@@ -85,7 +85,7 @@ module _ (t : ℕ) where
           kept_then d (kept_then i.2.kept o.ensures.1.0),
           λ k e. o.ensures.1.1
               (rw c.before.before.before.before.before.before.before.before.entry_at.ensures ((room-kept i.0 i.2.kept (room-kept c.before.before.before.before.before.before.before.before.before.before.before.before.before.before.before.before.before.before.before.requires.1 d k)).1 (c.before.before.before.before.before.before.before.before.before.before.before.loop.i - 1) (omega (arith, i.2.within, c.before.before.before.before.before.before.before.before.before.before.loop-test.true))))
-              (not_true o.result c.if2.true),
+              (not-true o.result c.if2.true),
         ),
       )
 
@@ -99,7 +99,7 @@ module _ (t : ℕ) where
         i.1,
         tabling-turn i.0 i.2 c.before.before.before.before.before.before.before.before.before.before.loop-test.true i.1 c.before.before.before.before.before.before.before.before.entry_at.result c.before.before.before.before.before.before.before.before.entry_at.ensures
             c.before.before.before.before.before.before.close-behind.result c.before.before.before.before.before.ends_column.result c.before.before.before.before.before.before.close-behind.ensures c.before.before.before.before.before.ends_column.ensures
-            _ c.before.before.before.fill-row.ensures.1.0 (c.before.before.before.fill-row.ensures.0 (not_false c.before.before.before.fill-row.result c.if2.false)),
+            _ c.before.before.before.fill-row.ensures.1.0 (c.before.before.before.fill-row.ensures.0 (not-false c.before.before.before.fill-row.result c.if2.false)),
       )
 
   pub entry-at-requires-2 : lts.Need-entry-at-requires-2 (claims t) (at t) fill-table.Post Inv-loop μ-loop

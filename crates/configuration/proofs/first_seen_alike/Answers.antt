@@ -1,0 +1,100 @@
+use native.Mathlib.Omega.{arith}
+use Prim.Native.Nat.{◌-◌, ◌≤◌}
+use mathlib.Core.Path.{sym}
+use lib.ListN.{length}
+use Rattle.patterns.specs.Names.{caseless}
+use Rattle.configuration.specs.Lockstep.{Walked}
+use Rattle.configuration.proofs.Scan.{part_length, Scanning, scanning_first, scanning_end, one_part, two_part, first-met, second-met, token-moves, scanning-next}
+use Rattle.configuration.proofs.first_seen_alike.Goals as goal
+
+pub loop-x-init : goal.loop-x-init
+loop-x-init c = (omega arith, λ w. scanning_first _ _ w)
+
+pub slice_bounds-s-count : goal.slice_bounds-s-count
+slice_bounds-s-count c = omega (arith, c.loop-x-test.true, c.requires.0)
+
+pub slice_bounds-s-start : goal.slice_bounds-s-start
+slice_bounds-s-start c = omega (arith, c.loop-x-test.true, c.requires.0)
+
+pub slice_bounds-s-end : goal.slice_bounds-s-end
+slice_bounds-s-end c = omega arith
+
+pub slice_bounds-t-count : goal.slice_bounds-t-count
+slice_bounds-t-count c = omega (arith, c.loop-x.invariant.0)
+
+pub slice_bounds-t-start : goal.slice_bounds-t-start
+slice_bounds-t-start c = omega (arith, c.loop-x.invariant.0)
+
+pub slice_bounds-t-end : goal.slice_bounds-t-end
+slice_bounds-t-end c = omega arith
+
+pub meets_name-p-requires : goal.meets_name-p-requires
+meets_name-p-requires c = one_part ((let it : Scanning c.args.a.now c.args.b.now c.args.i c.args.j c.loop-x.x c.loop-x.y (caseless c.args.n.now) (caseless c.args.m.now) c.requires.2 = c.loop-x.invariant.1 c.requires.2 in it)) c.loop-x-test.true
+
+pub meets_name-q-requires : goal.meets_name-q-requires
+meets_name-q-requires c = two_part ((let it : Scanning c.args.a.now c.args.b.now c.args.i c.args.j c.loop-x.x c.loop-x.y (caseless c.args.n.now) (caseless c.args.m.now) c.requires.2 = c.loop-x.invariant.1 c.requires.2 in it)) c.loop-x-test.true
+
+pub returns-then-p : goal.returns-then-p
+returns-then-p c = λ w.
+    let l = c.loop-x-test.true in
+    let s = c.loop-x.invariant.1 w in
+    let p = c.meets_name-p in
+    let q = c.meets_name-q in
+    sym (first-met s l p.result q.result (p.ensures (one_part s l)) (q.ensures (two_part s l)) c.if-p.true)
+
+pub returns-then-q : goal.returns-then-q
+returns-then-q c = λ w.
+    let l = c.loop-x-test.true in
+    let s = c.loop-x.invariant.1 w in
+    let p = c.meets_name-p in
+    let q = c.meets_name-q in
+    sym (second-met s l p.result q.result (p.ensures (one_part s l)) (q.ensures (two_part s l)) c.if-p.false c.if-q.true)
+
+pub token_len-x-requires : goal.token_len-x-requires
+token_len-x-requires c = one_part ((let it : Scanning c.args.a.now c.args.b.now c.args.i c.args.j c.loop-x.x c.loop-x.y (caseless c.args.n.now) (caseless c.args.m.now) c.requires.2 = c.loop-x.invariant.1 c.requires.2 in it)) c.loop-x-test.true
+
+pub overflow_add-x : goal.overflow_add-x
+overflow_add-x c = omega (arith, (c.token_len-x.ensures (one_part ((let it : Scanning c.args.a.now c.args.b.now c.args.i c.args.j c.loop-x.x c.loop-x.y (caseless c.args.n.now) (caseless c.args.m.now) c.requires.2 = c.loop-x.invariant.1 c.requires.2 in it)) c.loop-x-test.true)).fits, part_length c.args.a.now c.loop-x.x, c.loop-x-test.true, c.requires.0)
+
+pub token_len-y-requires : goal.token_len-y-requires
+token_len-y-requires c = two_part ((let it : Scanning c.args.a.now c.args.b.now c.args.i c.args.j c.loop-x.x c.loop-x.y (caseless c.args.n.now) (caseless c.args.m.now) c.requires.2 = c.loop-x.invariant.1 c.requires.2 in it)) c.loop-x-test.true
+
+pub overflow_add-y : goal.overflow_add-y
+overflow_add-y c =
+    let l = c.loop-x-test.true in
+    let s = (let it : Scanning c.args.a.now c.args.b.now c.args.i c.args.j c.loop-x.x c.loop-x.y (caseless c.args.n.now) (caseless c.args.m.now) c.requires.2 = c.loop-x.invariant.1 c.requires.2 in it) in
+    let p = c.meets_name-p in
+    let q = c.meets_name-q in
+    let d = c.token_len-x in
+    let k = c.token_len-y in
+    let v = token-moves s l p.result q.result (p.ensures (one_part s l)) (q.ensures (two_part s l)) d.result k.result (d.ensures (one_part s l)) (k.ensures (two_part s l)) in
+    omega (arith, v.1 c.loop-x.invariant.0)
+
+pub loop-x-smaller : goal.loop-x-smaller
+loop-x-smaller c =
+    let l = c.loop-x-test.true in
+    let s = (let it : Scanning c.args.a.now c.args.b.now c.args.i c.args.j c.loop-x.x c.loop-x.y (caseless c.args.n.now) (caseless c.args.m.now) c.requires.2 = c.loop-x.invariant.1 c.requires.2 in it) in
+    let p = c.meets_name-p in
+    let q = c.meets_name-q in
+    let d = c.token_len-x in
+    let k = c.token_len-y in
+    let v = token-moves s l p.result q.result (p.ensures (one_part s l)) (q.ensures (two_part s l)) d.result k.result (d.ensures (one_part s l)) (k.ensures (two_part s l)) in
+    omega (arith, l, v.0)
+
+pub loop-x-preserved : goal.loop-x-preserved
+loop-x-preserved c =
+    let l = c.loop-x-test.true in
+    let s = (let it : Scanning c.args.a.now c.args.b.now c.args.i c.args.j c.loop-x.x c.loop-x.y (caseless c.args.n.now) (caseless c.args.m.now) c.requires.2 = c.loop-x.invariant.1 c.requires.2 in it) in
+    let p = c.meets_name-p in
+    let q = c.meets_name-q in
+    let d = c.token_len-x in
+    let k = c.token_len-y in
+    let v = token-moves s l p.result q.result (p.ensures (one_part s l)) (q.ensures (two_part s l)) d.result k.result (d.ensures (one_part s l)) (k.ensures (two_part s l)) in (
+      v.1 c.loop-x.invariant.0,
+      λ w.
+          let s = c.loop-x.invariant.1 w in
+          scanning-next s l p.result q.result (p.ensures (one_part s l)) (q.ensures (two_part s l)) d.result k.result (d.ensures (one_part s l)) (k.ensures (two_part s l)) c.if-p.false c.if-q.false,
+    )
+
+pub returns : goal.returns
+returns c = λ w. sym (scanning_end (c.loop-x.invariant.1 w) c.loop-x-test.false)

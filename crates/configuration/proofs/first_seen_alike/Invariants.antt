@@ -1,0 +1,15 @@
+-- `configuration::first_seen_alike` meets its contract. Assumes nothing.
+use native.Mathlib.Omega.{arith}
+use Prim.Native.Nat.{◌-◌, ◌≤◌}
+use mathlib.Core.Path.{sym}
+use lib.ListN.{length}
+use Rattle.patterns.specs.Names.{caseless}
+use Rattle.configuration.specs.Lockstep.{Walked}
+use Rattle.configuration.proofs.Scan.{part_length, Scanning, scanning_first, scanning_end, one_part, two_part, first-met, second-met, token-moves, scanning-next}
+use Rattle.configuration.proofs.first_seen_alike.Given as goal
+
+abbrev pub invariant-loop-x : goal.invariant-loop-x
+invariant-loop-x l = (l.y ≤ length l.b) × ((w : Walked l.a l.b l.i l.j) → Scanning l.a l.b l.i l.j l.x l.y (caseless l.n) (caseless l.m) w)
+
+abbrev pub decreases-loop-x : goal.decreases-loop-x
+decreases-loop-x l = l.i - l.x

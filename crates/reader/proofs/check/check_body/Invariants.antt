@@ -1,0 +1,15 @@
+-- `reader::check::check_body` meets its contract. Assumes nothing.
+use borrow.Author.Rules.{rules}
+use native.Mathlib.Omega.{arith}
+use mathlib.Core.Path.{refl}
+use Prim.Native.Nat.{◌+◌, ◌-◌, ◌≤◌}
+use lib.ListN.{length}
+use Rattle.reader.proofs.Loop.{StateOf, state_first, loop_over, loop_end, loop_bad, loop_on, loop_next}
+use Rattle.program.proofs.Numbers.{bytes_of}
+use Rattle.reader.proofs.check.check_body.Given as goal
+
+abbrev pub invariant-loop-at : goal.invariant-loop-at
+invariant-loop-at l = (l.top ≤ 141) × StateOf l.b l.stack l.top l.at l.c
+
+abbrev pub decreases-loop-at : goal.decreases-loop-at
+decreases-loop-at l = length l.b - l.at

@@ -1,0 +1,17 @@
+-- `reader::flat::flat_terms` meets its contract. Assumes nothing.
+use borrow.Author.Rules.{rules}
+use native.Mathlib.Omega.{arith}
+use Prim.Native.Nat.{ℕ, ◌-◌, ◌≤◌, ◌<◌}
+use mathlib.Core.Path.{refl}
+use lib.ListN.{length}
+use Rattle.program.specs.Limits.{Mode}
+use Rattle.program.specs.Automaton.{Stack}
+use Rattle.reader.specs.Tally.{Alike, Ends}
+use Rattle.reader.proofs.Passing.{alike_self, alike_then}
+use Rattle.reader.proofs.flat.flat_terms.Given as goal
+
+abbrev pub invariant-loop-q : goal.invariant-loop-q
+invariant-loop-q l = (l.at ≤ l.p) × (l.p < length l.b) × ((m : Mode) (d : ℕ) (x : Stack) → Alike l.b l.at (Stack.terms m d x) l.p (Stack.terms m d x)) × ((m : Mode) (d : ℕ) (x : Stack) → Ends l.b l.p (Stack.terms m d x) l.q (Stack.terms m d x))
+
+abbrev pub decreases-loop-q : goal.decreases-loop-q
+decreases-loop-q l = length l.b - l.p

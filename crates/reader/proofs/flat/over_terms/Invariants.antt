@@ -1,0 +1,13 @@
+-- `reader::flat::over_terms` meets its contract. Assumes nothing.
+use borrow.Author.Rules.{rules}
+use native.Mathlib.Omega.{arith}
+use borrow.Author.Tests.{not-false}
+use Rattle.reader.specs.Tally.{Stops}
+use Rattle.reader.proofs.Passing.{spot, stops_first, stops_flat, stops-close, stops_then}
+use Rattle.reader.proofs.flat.over_terms.Given as goal
+
+abbrev pub invariant-loop-n : goal.invariant-loop-n
+invariant-loop-n l = Stops l.b l.s l.top l.at (spot l.n l.p)
+
+abbrev pub decreases-loop-n : goal.decreases-loop-n
+decreases-loop-n l = l.n

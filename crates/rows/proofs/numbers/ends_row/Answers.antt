@@ -1,0 +1,6 @@
+-- `rows::numbers::ends_row` meets its contract.
+use borrow.Author.Rules.{rules}
+use Rattle.rows.proofs.numbers.ends_row.Goals as goal
+
+pub returns : goal.returns
+returns c = cc

@@ -1,0 +1,49 @@
+-- `rows::pair_cell` meets its contract: the first cell of the word at the places of the two tails.
+use Prim.Native.Nat.{ℕ}
+use native.Mathlib.Omega.{arith}
+use mathlib.Core.Path.{◌≡◌, sym, ap, ◌∙◌, subst}
+use mathlib.Core.List.{List}
+use borrow.Author.Rules.{rules}
+use Rattle.program.specs.Syntax.{Terms}
+use Rattle.program.specs.Limits.{Mode}
+use Rattle.image.specs.Parts.{TermsAt}
+use Rattle.patterns.specs.Search.{sequence, size}
+use Rattle.rows.specs.Parts.{place_of, TailOf}
+use Rattle.rows.specs.Cells.{Cell, CellTold, low, PairTold}
+use Rattle.rows.specs.Rows.{read_at, PatternFrom}
+use Rattle.rows.proofs.Readings.{in_body}
+use Rattle.rows.proofs.Cells.{cell_told}
+use Rattle.rows.proofs.Words.{told-low}
+use Rattle.rows.proofs.Places.{read_is}
+use Rattle.rows.proofs.pair_cell.Goals as goal
+
+-- A pattern at the start of a tail stands at its place.
+from_tail : {b s : List ℕ} → TailOf b s → TermsAt Mode.pattern s → PatternFrom b (place_of b s)
+from_tail t x = record { pattern = in_body t x }
+
+first-told : {b left right : List ℕ} (u : TailOf b left) (v : TailOf b right) (w r : ℕ) → r ≡ low w → PairTold (read_at b (place_of b left)) (read_at b (place_of b right)) w
+    → (x : TermsAt Mode.pattern left) (y : TermsAt Mode.pattern right) → CellTold (λ f. sequence f x.terms y.terms) r
+unfolding from_tail
+first-told {b} {left} {right} u v w r e t x y =
+    let c = subst (λ (n : ℕ). Cell (λ f. sequence f (read_at b (place_of b left)) (read_at b (place_of b right))) n) (sym e) t.first in
+    let d = subst (λ (z : Terms). Cell (λ f. sequence f z (read_at b (place_of b right))) r) (read_is (from_tail u x)) c in
+    cell_told (subst (λ (z : Terms). Cell (λ f. sequence f x.terms z) r) (read_is (from_tail v y)) d)
+
+pub table_of-requires : goal.table_of-requires
+table_of-requires c = let s = c.requires in (from_tail s.0.tail s.0.pattern, from_tail s.1.tail s.1.pattern, s.2)
+
+pub shape_of-room : goal.shape_of-room
+shape_of-room c = c.table_of.ensures.keeps.length
+
+pub returns : goal.returns
+unfolding from_tail
+returns c = let s = c.requires in let o = c.table_of in let e = c.low_of.ensures.0 in let k = o.ensures.1.0 in record {
+  tells = λ n x y. first-told s.0.tail s.1.tail o.result c.low_of.result e (o.ensures.0 (λ z. n (e ∙ ap low z))) x y;
+  keeps = (
+    k.length,
+    k.below,
+    λ x y l z.
+        let n = o.ensures.1.1 (omega (arith, l, ap size (read_is (from_tail s.0.tail x)), ap size (read_is (from_tail s.1.tail y)))) in
+        told-low (o.ensures.0 n) (sym e ∙ z),
+  );
+}

@@ -37,13 +37,13 @@ shape_of-room c = c.table_of.ensures.keeps.length
 
 pub returns : goal.returns
 unfolding from_tail
-returns c = let s = c.requires in let o = c.table_of in let e = c.low_of.ensures.0 in let k = o.ensures.1.0 in record {
-  tells = λ n x y. first-told s.0.tail s.1.tail o.result c.low_of.result e (o.ensures.0 (λ z. n (e ∙ ap low z))) x y;
+returns c = let s = c.requires in let o = c.table_of in let e = c.low_of.ensures.0 in let k = o.ensures.keeps in record {
+  tells = λ n x y. first-told s.0.tail s.1.tail o.result c.low_of.result e (o.ensures.tells (λ z. n (e ∙ ap low z))) x y;
   keeps = (
     k.length,
     k.below,
     λ x y l z.
-        let n = o.ensures.1.1 (omega (arith, l, ap size (read_is (from_tail s.0.tail x)), ap size (read_is (from_tail s.1.tail y)))) in
-        told-low (o.ensures.0 n) (sym e ∙ z),
+        let n = o.ensures.suffices (omega (arith, l, ap size (read_is (from_tail s.0.tail x)), ap size (read_is (from_tail s.1.tail y)))) in
+        told-low (o.ensures.tells n) (sym e ∙ z),
   );
 }

@@ -32,7 +32,7 @@ pub overflow_sub-b : goal.overflow_sub-b
 overflow_sub-b c = omega (arith, c.over_terms-t.ensures.within)
 
 pub advanced-c-requires : goal.advanced-c-requires
-advanced-c-requires c = let l = c.loop-at in let s = c.type_inv.0.0 in let t = c.loop-at-test.true in (omega (arith, l.invariant.1.few.0, s, t), omega (arith, l.invariant.1.few.1, s, t))
+advanced-c-requires c = let l = c.loop-at in let s = c.well_formed.0.0 in let t = c.loop-at-test.true in (omega (arith, l.invariant.1.few.0, s, t), omega (arith, l.invariant.1.few.1, s, t))
 
 pub overflow_add-top : goal.overflow_add-top
 overflow_add-top c = let l = c.loop-at in let t = c.over_terms-t in let b = c.args.b.now in let h = loop_over b l.stack l.top l.at l.c l.invariant.1 t.result t.ensures in let z = loop_on b l.stack t.result.n t.result.at l.c h t.ensures.within c.top_of-e.result c.turn-r.result c.top_of-e.ensures c.turn-r.ensures c.in-Go.g c.in-Go.is in omega (arith, z.2, c.below-in-Go.ensures, t.ensures.few, l.invariant.0)
@@ -41,7 +41,7 @@ pub loop-at-smaller : goal.loop-at-smaller
 loop-at-smaller c = let l = c.loop-at in let t = c.over_terms-t in let b = c.args.b.now in let h = loop_over b l.stack l.top l.at l.c l.invariant.1 t.result t.ensures in let z = loop_on b l.stack t.result.n t.result.at l.c h t.ensures.within c.top_of-e.result c.turn-r.result c.top_of-e.ensures c.turn-r.ensures c.in-Go.g c.in-Go.is in omega (arith, z.0, z.1, t.ensures.ahead)
 
 pub loop-at-preserved : goal.loop-at-preserved
-loop-at-preserved c = let l = c.loop-at in let t = c.over_terms-t in let b = c.args.b.now in let h = loop_over b l.stack l.top l.at l.c l.invariant.1 t.result t.ensures in loop_next b l.stack t.result.n t.result.at l.c h t.ensures.within c.top_of-e.result c.turn-r.result c.top_of-e.ensures c.turn-r.ensures c.in-Go.g c.in-Go.is c.store.new.0 c.below.result c.below-in-Go.result c.advanced-c.result (bytes_of b (λ i. omega (arith, c.shared_slice_known-in-loop-at-1.given i))) c.below.ensures c.store.ensures c.advanced-c.ensures c.below-in-Go.ensures
+loop-at-preserved c = let l = c.loop-at in let t = c.over_terms-t in let b = c.args.b.now in let h = loop_over b l.stack l.top l.at l.c l.invariant.1 t.result t.ensures in loop_next b l.stack t.result.n t.result.at l.c h t.ensures.within c.top_of-e.result c.turn-r.result c.top_of-e.ensures c.turn-r.ensures c.in-Go.g c.in-Go.is c.store.new.s c.below.result c.below-in-Go.result c.advanced-c.result (bytes_of b (λ i. omega (arith, c.shared_slice_known-in-loop-at-1.given i))) c.below.ensures c.store.ensures c.advanced-c.ensures c.below-in-Go.ensures
 
 pub returns : goal.returns
 returns c = let l = c.loop-at in loop_end c.args.b.now l.stack l.top l.at l.c l.invariant.1 c.loop-at-test.false c.tallied.ensures

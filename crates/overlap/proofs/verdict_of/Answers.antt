@@ -5,8 +5,7 @@ use mathlib.Core.Path.{◌≡◌, refl}
 use Rattle.patterns.specs.declared.Verdict.{Verdict}
 use Rattle.patterns.specs.declared.Verdict.TheVariants.{Disjoint, Overlap, Unknown}
 use Rattle.rows.specs.Cells.{code_of}
-use Rattle.overlap.proofs.verdict_of.Statement.{statement}
-use Rattle.overlap.proofs.verdict_of.Tie as tie
+use Rattle.overlap.proofs.verdict_of.Goals as goal
 
 of_one : (n : ℕ) → n ≡ 1 → (v : Verdict) → n ≡ code_of v → Disjoint ≡ v
 of_one n e Disjoint h = refl
@@ -23,14 +22,11 @@ of_other n a b Disjoint h = absurd (a h)
 of_other n a b Overlap h = absurd (b h)
 of_other n a b Unknown h = refl
 
-returns : tie.Need-returns
-returns c = of_one c.before.args.n c.if1.true
+pub returns-then-n-eq1 : goal.returns-then-n-eq1
+returns-then-n-eq1 c = of_one c.args.n c.if-n-eq1.true
 
-returns-2 : tie.Need-returns-2
-returns-2 c = of_two c.before.before.args.n c.if2.true
+pub returns-then-n-eq2 : goal.returns-then-n-eq2
+returns-then-n-eq2 c = of_two c.args.n c.if-n-eq2.true
 
-returns-3 : tie.Need-returns-3
-returns-3 c = of_other c.before.before.args.n c.before.if1.false c.if2.false
-
-pub verdict-of-spec : {M : Type 1} → statement M
-verdict-of-spec = tie.close (tie.spec returns returns-2 returns-3)
+pub returns : goal.returns
+returns c = of_other c.args.n c.if-n-eq1.false c.if-n-eq2.false

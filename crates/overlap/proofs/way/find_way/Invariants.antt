@@ -1,0 +1,19 @@
+-- `overlap::way::find_way` meets its contract: its turns keep the trail from the start, and end with a way.
+use Prim.Native.Nat.{◌+◌, ◌*◌, ◌<◌, ◌≤◌}
+use native.Mathlib.Omega.{arith}
+use mathlib.Core.Path.{◌∙◌}
+use lib.ListN.{length, drop}
+use borrow.Author.Tests.{not-true, not-false}
+use Rattle.program.specs.Limits.{Mode}
+use Rattle.image.specs.Parts.{TermsAt}
+use Rattle.rows.specs.Rows.{Kept}
+use Rattle.rows.proofs.Places.{kept_same, kept_then}
+use Rattle.overlap.specs.Way.{Trail, trail-start}
+use Rattle.overlap.proofs.way.find_way.Given as goal
+
+abbrev pub invariant-loop-t : goal.invariant-loop-t
+invariant-loop-t l =
+    Kept l.from l.initial.room l.room × (l.from + 3 * l.height ≤ length l.room) × TermsAt Mode.pattern (drop l.i l.b) × TermsAt Mode.pattern (drop l.j l.b) × Trail l.b l.room l.from l.fuel l.left l.right l.height l.f l.i l.j
+
+abbrev pub decreases-loop-t : goal.decreases-loop-t
+decreases-loop-t l = l.f

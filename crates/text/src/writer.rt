@@ -7,7 +7,7 @@ ghost use Rattle.text.specs.Written.{written};
 
 use crate::counts::{put_graph, put_top, put_unchanged};
 
-#[derive(Clone, Copy)]
+#[derive(Drop)]
 pub struct Writer<'a> {
     pub text: &'a mut [u8],
     pub filled: usize,

@@ -1,7 +1,6 @@
 pub mod Fill
 pub mod Codes
 pub mod Leaves
-pub mod Again
 pub mod Held
 pub mod Pieces
 pub mod Formatting

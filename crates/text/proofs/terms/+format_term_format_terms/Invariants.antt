@@ -1,0 +1,28 @@
+use Prim.Native.Nat.{ℕ, ◌+◌, ◌*◌, ◌<◌, ◌-◌, ◌≤◌}
+use native.Mathlib.Omega.{arith}
+use mathlib.Core.List.{[], ◌∷◌, ◌++◌, List}
+use borrow.Author.Rules.{rules}
+use Rattle.rows.proofs.Readings.{part_length, pattern-room, next-at, next_fits}
+use Rattle.meaning.specs.Text.{format_terms}
+use Rattle.text.proofs.Fill.{emitted-same, emitted-append}
+use Rattle.text.proofs.Formatting.{bracket_in, symbol_in, variable_in, terms_text_fits, Writing, writing-first, writing-next, writing-last, term_text_fits, gap_before-length}
+use lib.ListN.{length, get_or}
+use mathlib.Core.Path.{◌≡◌, refl, ◌∙◌}
+use Rattle.program.specs.Limits.{Mode}
+use Rattle.image.specs.Parts.{TermsAt}
+use Rattle.image.proofs.Readings.{result-at}
+use Rattle.text.specs.Fill.{limit}
+use Rattle.text.proofs.terms.+format_term_format_terms.Given as goal
+
+abbrev pub decreases-format_term : goal.decreases-format_term
+decreases-format_term l = 2 * length l.s.now
+
+abbrev pub decreases-format_terms : goal.decreases-format_terms
+decreases-format_terms l = 2 * length l.s.now + 1
+
+abbrev pub invariant-format_terms-loop-x : goal.invariant-format_terms-loop-x
+invariant-format_terms-loop-x l =
+    (l.i ≤ length l.s) × (length l.out ≡ length l.initial.out) × (l.place + (length l.s - l.i) ≤ limit) × ((t : TermsAt Mode.pattern l.s) → Writing l.initial.out l.at t l.i l.out l.place)
+
+abbrev pub decreases-format_terms-loop-x : goal.decreases-format_terms-loop-x
+decreases-format_terms-loop-x l = length l.s - l.i

@@ -1,0 +1,15 @@
+-- `compare::letter` meets its contract. Assumes nothing.
+use native.Mathlib.Omega.{arith}
+use mathlib.Core.Path.{◌∙◌}
+use Rattle.compare.proofs.Letters.{own-letter, space_letter}
+use borrow.Author.Rules.{rules}
+use Rattle.compare.proofs.letter.Goals as goal
+
+pub text_letter-requires : goal.text_letter-requires
+text_letter-requires c = (c.requires.0, omega (arith, c.if-k-text_len.true, c.text_len.ensures))
+
+pub returns-then-k-text_len : goal.returns-then-k-text_len
+returns-then-k-text_len c = c.text_letter.ensures ∙ own-letter c.args.x.now c.args.k (omega (arith, c.if-k-text_len.true, c.text_len.ensures))
+
+pub returns : goal.returns
+returns c = space_letter c.args.x.now c.args.k (omega (arith, c.if-k-text_len.false, c.text_len.ensures)) c.requires.1

@@ -1,0 +1,24 @@
+-- `index::dispatch::residual_dispatches_dynamically` meets its contract. Assumes nothing.
+use Prim.Native.Nat.{◌+◌, ◌-◌, ◌<◌, ◌≤◌}
+use native.Mathlib.Omega.{arith}
+use mathlib.Core.Path.{◌≡◌, refl, sym, ap, ◌∙◌}
+use mathlib.Core.Bool.{Bool}
+use mathlib.Core.List.{List}
+use lib.ListN.{length, drop}
+use Rattle.meaning.specs.Lists.{any}
+use Rattle.meaning.specs.Dispatch.{activates_acarried_call}
+use Rattle.told.specs.Numbered.{Held}
+use Rattle.index.specs.Tables.{SitesAt}
+use Rattle.index.proofs.Entries.{Element, element_of}
+use Rattle.index.proofs.Sites.{call-there}
+use Rattle.index.proofs.Any.{any_found, any_next, any-end}
+use Rattle.index.proofs.dispatch.residual_dispatches_dynamically.Given as goal
+
+abbrev pub test : Held → Bool
+test x = activates_acarried_call x.site.callee
+
+abbrev pub invariant-loop-i : goal.invariant-loop-i
+invariant-loop-i l = (l.i ≤ l.n) × ((held : List Held) → SitesAt l.b held l.work l.calls → length held ≡ l.n → any test held ≡ any test (drop l.i held))
+
+abbrev pub decreases-loop-i : goal.decreases-loop-i
+decreases-loop-i l = l.n - l.i

@@ -1,0 +1,26 @@
+-- `index::links::is_plain` meets its contract. Assumes nothing.
+use native.Mathlib.Omega.{arith}
+use Rattle.index.proofs.Sites.{call-within, call_part, argument_part}
+use borrow.Author.Rules.{rules}
+use Rattle.index.proofs.links.is_plain.Goals as goal
+
+pub slice_bounds-x-count : goal.slice_bounds-x-count
+slice_bounds-x-count c = omega (arith, call-within c.args.b.now c.args.p c.requires)
+
+pub slice_bounds-x-start : goal.slice_bounds-x-start
+slice_bounds-x-start c = omega (arith, call-within c.args.b.now c.args.p c.requires)
+
+pub call_argument-a-requires : goal.call_argument-a-requires
+call_argument-a-requires c = call_part c.args.b.now c.args.p c.requires
+
+pub slice_bounds-restriction_is_characterisable-count : goal.slice_bounds-restriction_is_characterisable-count
+slice_bounds-restriction_is_characterisable-count c = omega (arith, (c.call_argument-a.ensures (call_part c.args.b.now c.args.p c.requires)).fits)
+
+pub slice_bounds-restriction_is_characterisable-start : goal.slice_bounds-restriction_is_characterisable-start
+slice_bounds-restriction_is_characterisable-start c = omega (arith, (c.call_argument-a.ensures (call_part c.args.b.now c.args.p c.requires)).fits)
+
+pub restriction_is_characterisable-requires : goal.restriction_is_characterisable-requires
+restriction_is_characterisable-requires c = argument_part c.args.b.now c.args.p c.requires c.call_argument-a.result (c.call_argument-a.ensures (call_part c.args.b.now c.args.p c.requires))
+
+pub returns : goal.returns
+returns c = λ x. c.restriction_is_characterisable.ensures (argument_part c.args.b.now c.args.p x c.call_argument-a.result (c.call_argument-a.ensures (call_part c.args.b.now c.args.p x)))

@@ -1,0 +1,24 @@
+-- `index::links::share_heads` meets its contract. Assumes nothing.
+use Prim.Native.Nat.{ℕ, ◌+◌, ◌-◌, ◌*◌, ◌%◌, ◌<◌, ◌≤◌}
+use native.Mathlib.Omega.{arith}
+use mathlib.Core.Path.{◌≡◌, refl, subst}
+use mathlib.Core.List.{List}
+use lib.ListN.{length, get_or, drop}
+use Rattle.program.specs.Syntax.{Name, Function}
+use Rattle.image.specs.Parts.{FunctionAt}
+use Rattle.told.specs.Numbered.{Held}
+use Rattle.index.specs.First.{First}
+use Rattle.index.specs.Tables.{Apart}
+use Rattle.index.specs.Tabled.{Tabled}
+use Rattle.index.specs.Bucket.{is_named, Filed}
+use Rattle.index.specs.Links.{FirstsHeaded}
+use Rattle.index.proofs.Entries.{apart_set, apart-same, tabled-there, tabled-stands, tabled-name}
+use Rattle.index.proofs.Preserved.{tabled-apart, filed-apart, some_filed_apart}
+use Rattle.index.proofs.Shared.{Sharing, sharing_first, sharing_end, sharing_next, own_first}
+use Rattle.index.proofs.links.share_heads.Given as goal
+
+abbrev pub invariant-loop-f : goal.invariant-loop-f
+invariant-loop-f l = (l.f ≤ l.functions) × Apart l.initial.work l.work l.functions (2 * l.functions) × ((fs : List Function) (held : List Held) → Tabled l.b l.initial.work l.functions fs → Filed fs l.initial.work l.at (l.at + l.functions) l.n 0 → FirstsHeaded fs held l.initial.work l.functions 0 → Sharing fs held l.work l.functions l.f)
+
+abbrev pub decreases-loop-f : goal.decreases-loop-f
+decreases-loop-f l = l.functions - l.f

@@ -1,0 +1,12 @@
+-- `index::table::class_of` meets its contract. Assumes nothing.
+use Prim.Native.Nat.{◌+◌}
+use native.Mathlib.Omega.{arith}
+use mathlib.Core.Path.{refl}
+use borrow.Author.Rules.{rules}
+use Rattle.index.proofs.table.class_of.Goals as goal
+
+pub overflow_cast-result : goal.overflow_cast-result
+overflow_cast-result c = omega (arith, c.shared_slice_known-1.given (c.args.links + c.args.i))
+
+pub returns : goal.returns
+returns c = (refl, omega (arith, c.shared_slice_known-1.given (c.args.links + c.args.i)))

@@ -1,0 +1,50 @@
+use Prim.Native.Nat.{ℕ, ◌+◌, ◌-◌, ◌<◌, ◌≤◌}
+use native.Mathlib.Omega.{arith}
+use mathlib.Core.Path.{◌≡◌, sym, ap, ◌∙◌}
+use mathlib.Core.Bool.{Bool}
+use mathlib.Core.List.{List}
+use lib.ListN.{length, get_or}
+use Rattle.program.specs.Syntax.{Name}
+use Rattle.told.specs.Numbered.{Held}
+use Rattle.index.specs.Layout.{links}
+use Rattle.index.specs.First.{First}
+use Rattle.told.specs.Calls.{is_listed}
+use Rattle.index.specs.Links.{entry_next}
+use Rattle.told.specs.History.{is_there}
+use Rattle.cleaning.specs.Indexed.{fell_of}
+use Rattle.cleaning.specs.Walks.{Walkable, is_there_listed}
+use Rattle.cleaning.proofs.Walking.{Going, there-first, there-end, there-below, there-found, there-next}
+use Rattle.cleaning.proofs.walks.first_there.Goals as goal
+
+pub links_of-links-requires : goal.links_of-links-requires
+links_of-links-requires c = let w = c.requires.walkable in (omega (arith, w.fits, w.small), omega (arith, w.fits, w.small), omega (arith, w.fits, w.small))
+
+pub loop-j-init : goal.loop-j-init
+loop-j-init c = λ kind f sites q w b. there-first w ((is_there (fell_of c.args.plan c.args.work.now) c.args.round)) b
+
+pub site_there-requires : goal.site_there-requires
+site_there-requires c =
+    let w = c.requires.walkable in
+    (c.loop-j-test.true, w.fits, w.small, there-below w ((is_there (fell_of c.args.plan c.args.work.now) c.args.round)) ((let p = c.requires in c.loop-j.invariant p.kind p.name p.sites p.from p.walkable p.begins)) c.loop-j-test.true)
+
+pub returns-then-site_there : goal.returns-then-site_there
+returns-then-site_there c = λ kind f sites q w b. there-found w ((is_there (fell_of c.args.plan c.args.work.now) c.args.round)) (c.loop-j.invariant kind f sites q w b) c.loop-j-test.true (sym c.site_there.ensures ∙ c.if-site_there.true)
+
+pub next_site-j-requires : goal.next_site-j-requires
+next_site-j-requires c = let w = c.requires.walkable in omega (arith, w.fits, c.loop-j-test.true, c.links_of-links.ensures)
+
+pub loop-j-smaller : goal.loop-j-smaller
+loop-j-smaller c =
+    let w = c.requires.walkable in
+    let t = c.loop-j-test.true in
+    let n = there-next w ((is_there (fell_of c.args.plan c.args.work.now) c.args.round)) ((let p = c.requires in c.loop-j.invariant p.kind p.name p.sites p.from p.walkable p.begins)) t (sym c.site_there.ensures ∙ c.if-site_there.false) c.next_site-j.result ((let it : let a = c.args in c.next_site-j.result ≡ entry_next (get_or a.work.now (links a.plan + c.loop-j.j) 0) = let a = c.args in
+    c.next_site-j.ensures.0 ∙ ap (λ (k : ℕ). entry_next (get_or a.work.now (k + c.loop-j.j) 0)) c.links_of-links.ensures in it)) in
+    omega (arith, t, n.1)
+
+pub loop-j-preserved : goal.loop-j-preserved
+loop-j-preserved c = λ kind f sites q w b.
+    (there-next w ((is_there (fell_of c.args.plan c.args.work.now) c.args.round)) (c.loop-j.invariant kind f sites q w b) c.loop-j-test.true (sym c.site_there.ensures ∙ c.if-site_there.false) c.next_site-j.result ((let it : let a = c.args in c.next_site-j.result ≡ entry_next (get_or a.work.now (links a.plan + c.loop-j.j) 0) = let a = c.args in
+    c.next_site-j.ensures.0 ∙ ap (λ (k : ℕ). entry_next (get_or a.work.now (k + c.loop-j.j) 0)) c.links_of-links.ensures in it))).0
+
+pub returns : goal.returns
+returns c = λ kind f sites q w b. there-end w ((is_there (fell_of c.args.plan c.args.work.now) c.args.round)) (c.loop-j.invariant kind f sites q w b) c.loop-j-test.false

@@ -1,0 +1,59 @@
+-- `expression::walk::put_head` meets its contract: each answer follows the marks.
+use native.Mathlib.Omega.{arith}
+use mathlib.Core.Path.{◌≡◌, sym, ap, ◌∙◌}
+use mathlib.Core.Logic.{⊎_elim}
+use Prim.Native.Nat.{◌<◌}
+use mathlib.Core.Bool.{true, true≢false}
+use lib.ListN.{length, get_or}
+use Rattle.rows.proofs.Heads.{head-room}
+use Rattle.text.proofs.Fill.{emitted-nothing, emitted-same}
+use borrow.Author.Rules.{rules}
+use Rattle.expression.proofs.Heads.{head_open, bracket_over_term, bracket_over_none, variable_over, literal_against_bracket, second-literal, first_literal_only}
+use Rattle.expression.proofs.walk.put_head.Goals as goal
+
+pub bounds-s-0 : goal.bounds-s-0
+bounds-s-0 c = omega (arith, head-room c.requires.0.first)
+
+pub bounds-t-0 : goal.bounds-t-0
+bounds-t-0 c = omega (arith, head-room c.requires.0.second)
+
+pub put_free_term-requires : goal.put_free_term-requires
+put_free_term-requires c =
+    let p = c.requires.0 in
+    (record { pattern = p.first.pattern; short = omega (arith, ap length (bracket_over_term c.args.swapped p.first p.second c.if-m-eq7.true c.if-n-eq5.true), p.short) }, head_open p.first)
+
+pub returns-then-n-eq5 : goal.returns-then-n-eq5
+returns-then-n-eq5 c = λ x y. emitted-same (bracket_over_term c.args.swapped x y c.if-m-eq7.true c.if-n-eq5.true) (c.put_free_term.ensures x.pattern)
+
+pub returns-then-m-eq7 : goal.returns-then-m-eq7
+returns-then-m-eq7 c = λ x y. emitted-same (bracket_over_none c.args.swapped x y c.if-m-eq7.true c.if-n-eq5.false (c.requires.1 c.if-m-eq7.true)) (emitted-nothing c.args.out.now c.args.at)
+
+pub put_free_term-requires-then-m-gt3 : goal.put_free_term-requires-then-m-gt3
+put_free_term-requires-then-m-gt3 c =
+    let p = c.requires.0 in
+    (record { pattern = p.second.pattern; short = omega (arith, ap length (variable_over c.args.swapped p.first p.second c.if-m-eq7.false c.if-m-gt3.true), p.short) }, head_open p.second)
+
+pub returns-then-m-gt3 : goal.returns-then-m-gt3
+returns-then-m-gt3 c = λ x y. emitted-same (variable_over c.args.swapped x y c.if-m-eq7.false c.if-m-gt3.true) (c.put_free_term-then-m-gt3.ensures y.pattern)
+
+pub returns-then-n-eq7 : goal.returns-then-n-eq7
+returns-then-n-eq7 c = λ x y. emitted-same (literal_against_bracket c.args.swapped x y (λ l. omega (arith, l, c.if-m-gt3.false)) c.if-n-eq7.true) (emitted-nothing c.args.out.now c.args.at)
+
+pub put_free_term-requires-then-n-lt4 : goal.put_free_term-requires-then-n-lt4
+put_free_term-requires-then-n-lt4 c =
+    let p = c.requires.0 in
+    (record { pattern = p.second.pattern; short = omega (arith, ap length (second-literal c.args.swapped p.first p.second (λ l. omega (arith, l, c.if-m-gt3.false)) c.if-swapped.true c.if-n-lt4.true), p.short) }, head_open p.second)
+
+pub returns-then-n-lt4 : goal.returns-then-n-lt4
+returns-then-n-lt4 c = λ x y. emitted-same (second-literal c.args.swapped x y (λ l. omega (arith, l, c.if-m-gt3.false)) c.if-swapped.true c.if-n-lt4.true) (c.put_free_term-then-n-lt4.ensures y.pattern)
+
+pub put_free_term-requires-2 : goal.put_free_term-requires-2
+put_free_term-requires-2 c =
+    let p = c.requires.0 in
+    let n = ⊎_elim {C = c.args.swapped ≡ true → get_or c.args.t.now 0 0 < 4 → ⊥} (λ k e l. omega (arith, k.1.left, l)) (λ k e l. true≢false (sym e ∙ k.left)) c.if-swapped.branch in
+    (record { pattern = p.first.pattern; short = omega (arith, ap length (first_literal_only c.args.swapped p.first p.second (λ l. omega (arith, l, c.if-m-gt3.false)) c.if-n-eq7.false n), p.short) }, head_open p.first)
+
+pub returns : goal.returns
+returns c =
+    let n = ⊎_elim {C = c.args.swapped ≡ true → get_or c.args.t.now 0 0 < 4 → ⊥} (λ k e l. omega (arith, k.1.left, l)) (λ k e l. true≢false (sym e ∙ k.left)) c.if-swapped.branch in
+    λ x y. emitted-same (first_literal_only c.args.swapped x y (λ l. omega (arith, l, c.if-m-gt3.false)) c.if-n-eq7.false n) (c.put_free_term-2.ensures x.pattern)

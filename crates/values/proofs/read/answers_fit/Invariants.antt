@@ -1,0 +1,18 @@
+-- `values::read::answers_fit` meets its contract. The invariant: the tokens left, with as many closes owed, answer as the whole.
+use Prim.Native.Nat.{◌*◌, ◌-◌, ◌≤◌}
+use native.Mathlib.Omega.{arith}
+use borrow.Author.Rules.{rules}
+use lib.ListN.{length, get_or, take, drop}
+use Rattle.symbols.proofs.Parts.{part_rest}
+use Rattle.meaning.specs.Inputs.{answers_of}
+use Rattle.meaning.proofs.Tokens.{answered}
+use Rattle.values.specs.Values.{is_read}
+use Rattle.values.proofs.Turns.{Left, answers-start, left_end, left-none, left-next, size-within, part_there, answered_next}
+use Rattle.values.proofs.Bytes.{owed-room}
+use Rattle.values.proofs.read.answers_fit.Given as goal
+
+abbrev pub invariant-loop-at : goal.invariant-loop-at
+invariant-loop-at l = (l.at ≤ length l.s) × (4 * l.owed ≤ l.at) × Left (is_read (answers_of l.s)) answered l.s l.at l.owed
+
+abbrev pub decreases-loop-at : goal.decreases-loop-at
+decreases-loop-at l = length l.s - l.at

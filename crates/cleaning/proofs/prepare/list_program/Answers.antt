@@ -40,7 +40,7 @@ slice_bounds-program_sites-count c =
     calls-within p.enough p.body p.functions_are p.sentences_are c.list_functions.new.work ((c.list_functions.ensures.others p.body.reading).0 ∙ c.fill.ensures.others.length)
 
 pub slice_bounds-program_sites-start : goal.slice_bounds-program_sites-start
-slice_bounds-program_sites-start c = sub-program-sites c
+slice_bounds-program_sites-start c = slice_bounds-program_sites-count c
 
 pub program_sites-requires : goal.program_sites-requires
 program_sites-requires c =
@@ -52,4 +52,4 @@ returns c = λ w d f s.
     let p = c.requires in
     let m₂ = c.list_functions.new.work in
     let k = 2 * c.args.functions + 2 * c.args.sentences + (c.args.sentences + 31) / 32 in
-    program-listed p.enough d f s m₂ ((c.list_functions.ensures.others p.body.reading).0 ∙ c.fill.ensures.others.length) c.fill.new.work c.program_sites.new.sites (post_of k (length m₂ - k) m₂) c.fill.ensures.filled c.list_functions.ensures.functions c.list_functions.ensures.sentences c.list_functions.ensures.fresh c.list_functions.ensures.others c.program_sites.ensures (same_length c)
+    program-listed p.enough d f s m₂ ((c.list_functions.ensures.others p.body.reading).0 ∙ c.fill.ensures.others.length) c.fill.new.work c.program_sites.new.sites (post_of k (length m₂ - k) m₂) c.fill.ensures.filled c.list_functions.ensures.functions c.list_functions.ensures.sentences c.list_functions.ensures.fresh c.list_functions.ensures.others c.program_sites.ensures (search rules)

@@ -27,6 +27,7 @@ use Rattle.rows.proofs.Heads.{bracket-at}
 use Rattle.text.proofs.Fill.{emitted-same, emitted-append}
 use Rattle.expression.proofs.Heads.{both-brackets, both_brackets_long}
 use Rattle.expression.proofs.walk.+advance_meet_put_heads.Goals as goal
+use Rattle.expression.proofs.walk.+advance_meet_put_heads.Goals.{put_heads-then-b-left-eq7+else-b-right-eq7, put_heads-else-b-left-eq7}
 
 one_less : (f : ℕ) → 0 < f → f ≡ suc (f - 1)
 one_less f h = omega arith
@@ -370,7 +371,7 @@ put_heads-put_head-requires t c =
     let b = c.args.b.now in
     let p = c.requires.0 in (
       record { first = head_part b c.args.left p.first; second = head_part b c.args.right p.second; short = p.short },
-      ⊎_elim {C = get_or (part b c.args.left) 0 0 ≡ 7 → get_or (part b c.args.right) 0 0 ≡ 7 → ⊥} (λ k e l. k.2.left (sym (mark_in b c.args.right) ∙ l)) (λ k e l. k.left (sym (mark_in b c.args.left) ∙ e)) c.if-b-left-eq7.branch,
+      λ e l. elim c.if-b-left-eq7.branch [ put_heads-then-b-left-eq7+else-b-right-eq7 w ↦ w.if-b-right-eq7.false (sym (mark_in b c.args.right) ∙ l) | put_heads-else-b-left-eq7 w ↦ w.if-b-left-eq7.false (sym (mark_in b c.args.left) ∙ e) ],
     )
 
 pub put_heads-returns : goal.put_heads-returns

@@ -40,7 +40,7 @@ decreases-put_heads l = 3 * ((length l.b.now - l.left) + (length l.b.now - l.rig
 abbrev pub invariant-meet-loop-f : goal.invariant-meet-loop-f
 invariant-meet-loop-f l =
     (length l.out ≡ length l.initial.out) × Kept l.from l.initial.room l.room × Way l.b (in_turn l.room l.next l.known []) l.f l.x l.y × (l.next + 3 * l.known ≤ length l.room) × (l.from ≤ l.next + 3 * l.known)
-    × ((p : TermsAt Mode.pattern (drop l.left l.b)) (q : TermsAt Mode.pattern (drop l.right l.b)) → Stepped l.b l.initial.out l.at (l.left + l.right) l.fuel (meet_bytes l.swapped l.fuel p.terms q.terms) (record { l.left = l.x; l.right = l.y; l.swapped = l.c; l.fuel = l.f; l.place = l.place; l.next = l.next; l.known = l.known }) l.out)
+    × ((p : TermsAt Mode.pattern (drop l.left l.b)) (q : TermsAt Mode.pattern (drop l.right l.b)) → Stepped l.b l.initial.out l.at (l.left + l.right) l.fuel (meet_bytes l.swapped l.fuel p.terms q.terms) (record { left = l.x; right = l.y; swapped = l.c; fuel = l.f; place = l.place; next = l.next; known = l.known }) l.out)
 
 abbrev pub decreases-meet-loop-f : goal.decreases-meet-loop-f
 decreases-meet-loop-f l = l.f

@@ -10,6 +10,7 @@ use Rattle.text.proofs.Fill.{emitted-nothing, emitted-same}
 use borrow.Author.Rules.{rules}
 use Rattle.expression.proofs.Heads.{head_open, bracket_over_term, bracket_over_none, variable_over, literal_against_bracket, second-literal, first_literal_only}
 use Rattle.expression.proofs.walk.put_head.Goals as goal
+use Rattle.expression.proofs.walk.put_head.Goals.{then-swapped+else-n-lt4, else-swapped}
 
 pub bounds-s-0 : goal.bounds-s-0
 bounds-s-0 c = omega (arith, head-room c.requires.0.first)
@@ -50,10 +51,10 @@ returns-then-n-lt4 c = λ x y. emitted-same (second-literal c.args.swapped x y (
 pub put_free_term-requires-2 : goal.put_free_term-requires-2
 put_free_term-requires-2 c =
     let p = c.requires.0 in
-    let n = ⊎_elim {C = c.args.swapped ≡ true → get_or c.args.t.now 0 0 < 4 → ⊥} (λ k e l. omega (arith, k.1.left, l)) (λ k e l. true≢false (sym e ∙ k.left)) c.if-swapped.branch in
+    let n : c.args.swapped ≡ true → get_or c.args.t.now 0 0 < 4 → ⊥ = λ e l. elim c.if-swapped.branch [ then-swapped+else-n-lt4 w ↦ omega (arith, w.if-n-lt4.false, l) | else-swapped w ↦ true≢false (sym e ∙ w.if-swapped.false) ] in
     (record { pattern = p.first.pattern; short = omega (arith, ap length (first_literal_only c.args.swapped p.first p.second (λ l. omega (arith, l, c.if-m-gt3.false)) c.if-n-eq7.false n), p.short) }, head_open p.first)
 
 pub returns : goal.returns
 returns c =
-    let n = ⊎_elim {C = c.args.swapped ≡ true → get_or c.args.t.now 0 0 < 4 → ⊥} (λ k e l. omega (arith, k.1.left, l)) (λ k e l. true≢false (sym e ∙ k.left)) c.if-swapped.branch in
+    let n : c.args.swapped ≡ true → get_or c.args.t.now 0 0 < 4 → ⊥ = λ e l. elim c.if-swapped.branch [ then-swapped+else-n-lt4 w ↦ omega (arith, w.if-n-lt4.false, l) | else-swapped w ↦ true≢false (sym e ∙ w.if-swapped.false) ] in
     λ x y. emitted-same (first_literal_only c.args.swapped x y (λ l. omega (arith, l, c.if-m-gt3.false)) c.if-n-eq7.false n) (c.put_free_term-2.ensures x.pattern)

@@ -1,0 +1,70 @@
+use Prim.Native.Nat.{ℕ, ◌-◌}
+use native.Mathlib.Omega.{arith}
+use mathlib.Core.Path.{sym, subst}
+use borrow.Author.Rules.{rules}
+use lib.ListN.{drop}
+use Rattle.program.specs.Bytes.{get16}
+use Rattle.symbols.proofs.Parts.{part_rest}
+use Rattle.meaning.specs.Match.{Bindings}
+use Rattle.matching.specs.Bindings.{VariableAt, RunAt}
+use Rattle.matching.proofs.Variables.{place-within, Sought, sought_first, at_newest, sought_found, sought_more, sought_none, told_at}
+use Rattle.matching.proofs.bindings.lookup.Goals as goal
+
+pub loop-at-init : goal.loop-at-init
+loop-at-init c = λ v b r. sought_first v.kind v.name b r
+
+pub read16-place-requires : goal.read16-place-requires
+read16-place-requires c =
+    let h = c.requires in
+    let s = c.loop-at.invariant h.0 h.2.bindings h.2.is in
+    omega (arith, (at_newest h.0 s c.loop-at-test.true).room, h.1)
+
+pub slice_bounds-same_variable-count : goal.slice_bounds-same_variable-count
+slice_bounds-same_variable-count c = omega (arith, place-within c.args.body.now c.args.p c.requires.0)
+
+pub slice_bounds-same_variable-start : goal.slice_bounds-same_variable-start
+slice_bounds-same_variable-start c = omega (arith, place-within c.args.body.now c.args.p c.requires.0)
+
+pub slice_bounds-same_variable-count-in-loop-at : goal.slice_bounds-same_variable-count-in-loop-at
+slice_bounds-same_variable-count-in-loop-at c =
+    let h = c.requires in
+    let s = c.loop-at.invariant h.0 h.2.bindings h.2.is in
+    omega (arith, place-within c.args.body.now (get16 c.args.work.now c.loop-at.at) (at_newest h.0 s c.loop-at-test.true).there.variable, c.read16-place.ensures)
+
+pub slice_bounds-same_variable-start-in-loop-at : goal.slice_bounds-same_variable-start-in-loop-at
+slice_bounds-same_variable-start-in-loop-at c =
+    let h = c.requires in
+    let s = c.loop-at.invariant h.0 h.2.bindings h.2.is in
+    omega (arith, place-within c.args.body.now (get16 c.args.work.now c.loop-at.at) (at_newest h.0 s c.loop-at-test.true).there.variable, c.read16-place.ensures)
+
+pub same_variable-requires : goal.same_variable-requires
+same_variable-requires c =
+    let h = c.requires in
+    let body = c.args.body.now in
+    let s = c.loop-at.invariant h.0 h.2.bindings h.2.is in
+    let y = subst (λ (i : ℕ). VariableAt (drop i body)) (sym c.read16-place.ensures) (at_newest h.0 s c.loop-at-test.true).there.variable in
+    (subst VariableAt (sym (part_rest body c.args.p)) h.0, subst VariableAt (sym (part_rest body c.read16-place.result)) y)
+
+pub returns-then-same_variable : goal.returns-then-same_variable
+returns-then-same_variable c = λ v b r.
+    let body = c.args.body.now in
+    sought_found v (c.loop-at.invariant v b r) c.loop-at-test.true c.same_variable.result
+    (told_at body c.args.p c.read16-place.result c.read16-place.ensures (part_rest body c.args.p) (part_rest body c.read16-place.result) c.same_variable.ensures v) c.if-same_variable.true
+
+pub overflow_add-at : goal.overflow_add-at
+overflow_add-at c =
+    let h = c.requires in
+    let s = c.loop-at.invariant h.0 h.2.bindings h.2.is in
+    omega (arith, (at_newest h.0 s c.loop-at-test.true).room, h.1)
+
+pub loop-at-smaller : goal.loop-at-smaller
+loop-at-smaller c = omega arith
+
+pub loop-at-preserved : goal.loop-at-preserved
+loop-at-preserved c = λ v b r.
+    let body = c.args.body.now in
+    sought_more v (c.loop-at.invariant v b r) c.loop-at-test.true c.same_variable.result
+    (told_at body c.args.p c.read16-place.result c.read16-place.ensures (part_rest body c.args.p) (part_rest body c.read16-place.result) c.same_variable.ensures v) c.if-same_variable.false
+
+pub returns : goal.returns
+returns c = λ v b r. sought_none v (c.loop-at.invariant v b r) c.loop-at-test.false

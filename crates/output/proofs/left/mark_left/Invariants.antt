@@ -1,0 +1,17 @@
+-- `output::left::mark_left` meets its contract. Assumes nothing.
+use native.Mathlib.Omega.{arith}
+use mathlib.Core.Path.{◌≡◌, refl, ◌∙◌}
+use Prim.Native.Nat.{ℕ, ◌-◌, ◌≤◌}
+use Rattle.index.specs.Layout.{marks, calls}
+use Rattle.index.specs.Tables.{Apart}
+use Rattle.told.specs.Kept.{is_kept}
+use Rattle.cleaning.specs.Indexed.{fell_of}
+use Rattle.index.proofs.Entries.{apart-same}
+use Rattle.output.proofs.MarkPart.{marked, marks-apart, apart_then, left_to, keep_ready, left-start, left-turn, left-done}
+use Rattle.output.proofs.left.mark_left.Given as goal
+
+abbrev pub invariant-loop-s : goal.invariant-loop-s
+invariant-loop-s l = (l.s ≤ l.plan.sentences) × Apart l.initial.work l.work (marks l.plan) (calls l.plan) × ((j : ℕ) → is_kept (marked l.plan l.work) j ≡ left_to l.plan.sentences (fell_of l.plan l.initial.work) l.s j)
+
+abbrev pub decreases-loop-s : goal.decreases-loop-s
+decreases-loop-s l = l.plan.sentences - l.s

@@ -1,0 +1,16 @@
+-- `output::mark::count_ones` meets its contract. Assumes nothing.
+use native.Mathlib.Omega.{arith}
+use mathlib.Core.Path.{◌≡◌, ap, ◌∙◌}
+use Prim.Native.Nat.{ℕ, ◌*◌, ◌-◌, ◌≤◌}
+use native.Mathlib.Nat.{le_antisymm}
+use lib.ListN.{length}
+use Rattle.told.specs.Kept.{is_kept}
+use Rattle.output.specs.Marks.{kept_count}
+use Rattle.output.proofs.Ones.{words_turn, words_end, word_count, count_le, none_yet}
+use Rattle.output.proofs.mark.count_ones.Given as goal
+
+abbrev pub invariant-loop-j : goal.invariant-loop-j
+invariant-loop-j l = (l.j ≤ length l.marks) × (l.total ≡ kept_count (is_kept l.marks) 0 (32 * l.j))
+
+abbrev pub decreases-loop-j : goal.decreases-loop-j
+decreases-loop-j l = length l.marks - l.j

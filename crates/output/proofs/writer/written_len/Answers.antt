@@ -1,0 +1,16 @@
+-- `output::writer::written_len` meets its contract. Assumes nothing.
+use mathlib.Core.Path.{sym, ◌∙◌}
+use mathlib.Core.Bool.{true, false}
+use Rattle.told.specs.Kept.{is_kept}
+use Rattle.output.proofs.Items.{own-written, other-written}
+use borrow.Author.Rules.{rules}
+use Rattle.output.proofs.writer.written_len.Goals as goal
+
+pub returns-then-is_kept : goal.returns-then-is_kept
+returns-then-is_kept c = own-written c.args.s.now c.if-s-eq10.true (is_kept c.args.marks.now) c.args.i true (sym c.is_kept.ensures ∙ c.if-is_kept.true) c.args.w
+
+pub returns-else-is_kept : goal.returns-else-is_kept
+returns-else-is_kept c = own-written c.args.s.now c.if-s-eq10.true (is_kept c.args.marks.now) c.args.i false (sym c.is_kept.ensures ∙ c.if-is_kept.false) c.args.w
+
+pub returns-else-s-eq10 : goal.returns-else-s-eq10
+returns-else-s-eq10 c = other-written c.args.s.now c.if-s-eq10.false (is_kept c.args.marks.now) c.args.i c.args.w

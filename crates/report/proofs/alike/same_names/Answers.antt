@@ -1,0 +1,70 @@
+-- `report::alike::same_names` meets its contract. Assumes nothing.
+use native.Mathlib.Omega.{arith}
+use mathlib.Core.Path.{ap₂, ◌∙◌}
+use mathlib.Core.Bool.{true, false}
+use Rattle.patterns.specs.Names.{same_name}
+use Rattle.report.proofs.Namesakes.{heads_differ, heads-meet}
+use Rattle.report.proofs.Places.{function_of, named-at}
+use borrow.Author.Rules.{rules}
+use Rattle.report.proofs.alike.same_names.Goals as goal
+
+pub overflow_add-h : goal.overflow_add-h
+overflow_add-h c = let d = c.requires.0.readable.indexed in omega (arith, d.fits, d.small, c.requires.1)
+
+pub overflow_add-k : goal.overflow_add-k
+overflow_add-k c = let d = c.requires.0.readable.indexed in omega (arith, d.fits, d.small, c.requires.2)
+
+pub offset_bounds-work-h : goal.offset_bounds-work-h
+offset_bounds-work-h c = let d = c.requires.0.readable.indexed in omega (arith, d.fits, d.small, c.requires.1)
+
+pub bounds-work-h : goal.bounds-work-h
+bounds-work-h c = let d = c.requires.0.readable.indexed in omega (arith, d.fits, d.small, c.requires.1)
+
+pub offset_bounds-work-k : goal.offset_bounds-work-k
+offset_bounds-work-k c = let d = c.requires.0.readable.indexed in omega (arith, d.fits, d.small, c.requires.2)
+
+pub bounds-work-k : goal.bounds-work-k
+bounds-work-k c = let d = c.requires.0.readable.indexed in omega (arith, d.fits, d.small, c.requires.2)
+
+pub returns-then-work-h : goal.returns-then-work-h
+returns-then-work-h c = λ w v x d e k.
+    let a = c.args in
+    heads_differ d.indexed a.g a.f v x e k c.if-work-h.true
+
+pub head_site-requires : goal.head_site-requires
+head_site-requires c = let d = c.requires.0.readable.indexed in omega (arith, d.fits, d.small, c.requires.2)
+
+pub returns-then-head_site-plan : goal.returns-then-head_site-plan
+returns-then-head_site-plan c = λ w v x d e k.
+    let a = c.args in
+    heads-meet d.indexed a.g a.f v x e k c.if-work-h.false true c.head_site.result c.head_site.ensures.0 c.if-head_site-plan.true
+
+pub head_site-requires-2 : goal.head_site-requires-2
+head_site-requires-2 c = let d = c.requires.0.readable.indexed in omega (arith, d.fits, d.small, c.requires.2)
+
+pub returns-then-head_site-plan-2 : goal.returns-then-head_site-plan-2
+returns-then-head_site-plan-2 c = λ w v x d e k.
+    let a = c.args in
+    heads-meet d.indexed a.g a.f v x e k c.if-work-h.false false c.head_site-2.result c.head_site-2.ensures.0 c.if-head_site-plan-2.true
+
+pub place_of-p-requires : goal.place_of-p-requires
+place_of-p-requires c = let d = c.requires.0.readable.indexed in omega (arith, d.fits, d.small, c.requires.1)
+
+pub place_of-q-requires : goal.place_of-q-requires
+place_of-q-requires c = let d = c.requires.0.readable.indexed in omega (arith, d.fits, d.small, c.requires.2)
+
+pub function_name-requires : goal.function_name-requires
+function_name-requires c =
+    let x = function_of c.requires.0.readable c.args.g c.requires.1 in
+    (named-at c.requires.0.readable c.args.g x.element x.is c.place_of-p.result c.place_of-p.ensures.0).stands
+
+pub function_name-requires-2 : goal.function_name-requires-2
+function_name-requires-2 c =
+    let x = function_of c.requires.0.readable c.args.f c.requires.2 in
+    (named-at c.requires.0.readable c.args.f x.element x.is c.place_of-q.result c.place_of-q.ensures.0).stands
+
+pub returns : goal.returns
+returns c = λ w v x d e k.
+    let p = named-at d c.args.g v e c.place_of-p.result c.place_of-p.ensures.0 in
+    let q = named-at d c.args.f x k c.place_of-q.result c.place_of-q.ensures.0 in
+    c.same_name.ensures ∙ ap₂ same_name (c.function_name.ensures p.stands ∙ p.is) (c.function_name-2.ensures q.stands ∙ q.is)

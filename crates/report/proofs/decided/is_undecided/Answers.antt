@@ -1,0 +1,7 @@
+-- `report::decided::is_undecided` meets its contract. Assumes nothing.
+use Rattle.report.proofs.OpenNotes.{open_read}
+use borrow.Author.Rules.{rules}
+use Rattle.report.proofs.decided.is_undecided.Goals as goal
+
+pub returns : goal.returns
+returns c = let a = c.args in open_read a.plan a.work.now c.lines_of.result a.s c.lines_of.ensures

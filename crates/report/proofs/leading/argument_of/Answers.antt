@@ -1,0 +1,43 @@
+-- `report::leading::argument_of` meets its contract. Assumes nothing.
+use Prim.Native.Nat.{ℕ, ◌+◌, ◌<◌}
+use native.Mathlib.Omega.{arith}
+use mathlib.Core.Path.{◌≡◌, refl, sym, ◌∙◌}
+use mathlib.Core.Bool.{true}
+use mathlib.Core.Option.{some}
+use lib.ListN.{get_or, get_elem?}
+use Rattle.program.specs.Syntax.{Function, Program}
+use Rattle.symbols.proofs.Parts.{part_rest}
+use Rattle.index.specs.Layout.{heads}
+use Rattle.index.specs.Links.{list_head}
+use Rattle.index.specs.Lists.{ListAt}
+use Rattle.index.proofs.Alike.{call_of, reading_of}
+use Rattle.told.specs.Numbered.{sites_of}
+use Rattle.cleaning.proofs.Meeting.{list_at, site-below}
+use Rattle.report.specs.Emitting.{Readable}
+use Rattle.report.proofs.leading.argument_of.Goals as goal
+
+pub calls_of-requires : goal.calls_of-requires
+calls_of-requires c = let d = c.requires.readable.indexed in (omega (arith, d.fits, d.small), omega (arith, d.fits, d.small))
+
+pub overflow_add-k : goal.overflow_add-k
+overflow_add-k c = let d = c.requires.readable.indexed in omega (arith, d.fits, d.small, c.calls_of.ensures, (let it : c.args.i < c.args.plan.sites = let a = c.requires in site-below a.readable.indexed a.place a.function a.is c.args.i a.site a.at in it))
+
+pub offset_bounds-work-k : goal.offset_bounds-work-k
+offset_bounds-work-k c = let d = c.requires.readable.indexed in omega (arith, d.fits, d.small, c.calls_of.ensures, (let it : c.args.i < c.args.plan.sites = let a = c.requires in site-below a.readable.indexed a.place a.function a.is c.args.i a.site a.at in it))
+
+pub bounds-work-k : goal.bounds-work-k
+bounds-work-k c = let d = c.requires.readable.indexed in omega (arith, d.fits, d.small, c.calls_of.ensures, (let it : c.args.i < c.args.plan.sites = let a = c.requires in site-below a.readable.indexed a.place a.function a.is c.args.i a.site a.at in it))
+
+pub site_argument-requires : goal.site_argument-requires
+site_argument-requires c =
+    let a = c.requires in
+    call_of ((let it : (w : Program) (f : ℕ) (x : Function) → let a = c.args in Readable a.b.now w a.work.now a.plan → get_elem? w.functions f ≡ some x → ListAt a.b.now a.work.now c.calls_of.result (c.calls_of.result + a.plan.sites) a.plan.sites (list_head true (get_or a.work.now (heads a.plan + f) 0)) x.name (sites_of w) = λ w f x d e. list_at d.indexed f x e c.calls_of.result c.calls_of.ensures in it) a.program a.place a.function a.readable a.is) (record { is = a.at; listed = a.listed })
+
+pub returns : goal.returns
+returns c =
+    let r = c.site_argument in (
+      r.ensures.0,
+      λ w f x y d e g l.
+          let t = reading_of ((let it : (w : Program) (f : ℕ) (x : Function) → let a = c.args in Readable a.b.now w a.work.now a.plan → get_elem? w.functions f ≡ some x → ListAt a.b.now a.work.now c.calls_of.result (c.calls_of.result + a.plan.sites) a.plan.sites (list_head true (get_or a.work.now (heads a.plan + f) 0)) x.name (sites_of w) = λ w f x d e. list_at d.indexed f x e c.calls_of.result c.calls_of.ensures in it) w f x d e) (record { is = g; listed = l }) r.result (r.ensures.1 (call_of ((let it : (w : Program) (f : ℕ) (x : Function) → let a = c.args in Readable a.b.now w a.work.now a.plan → get_elem? w.functions f ≡ some x → ListAt a.b.now a.work.now c.calls_of.result (c.calls_of.result + a.plan.sites) a.plan.sites (list_head true (get_or a.work.now (heads a.plan + f) 0)) x.name (sites_of w) = λ w f x d e. list_at d.indexed f x e c.calls_of.result c.calls_of.ensures in it) w f x d e) (record { is = g; listed = l }))) in
+          record { reading = record { terms = t.terms; rest = t.rest; is = sym (part_rest c.args.b.now r.result) ∙ t.is; valid = t.valid }; is = refl },
+    )

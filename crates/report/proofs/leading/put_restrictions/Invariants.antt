@@ -1,0 +1,41 @@
+-- `report::leading::put_restrictions` meets its contract. Assumes nothing.
+use Prim.Native.Nat.{◌*◌, ◌+◌, ◌-◌, ◌<◌, suc, ℕ, ◌≤◌}
+use native.Mathlib.Omega.{arith}
+use mathlib.Core.Bool.{Bool, true}
+use mathlib.Core.List.{List, flat_map}
+use mathlib.Core.Option.{some}
+use mathlib.Core.Path.{ap, refl, sym, ◌∙◌, ◌≡◌}
+use lib.ListN.{drop, get_or, get_elem?, length}
+use Rattle.cleaning.proofs.Meeting.{here_element, here-listed, on-next}
+use Rattle.cleaning.proofs.Walking.{head_first}
+use Rattle.meaning.specs.Cleaning.{round}
+use Rattle.told.specs.History.{is_there}
+use Rattle.cleaning.specs.Indexed.{fell_of}
+use Rattle.told.specs.Numbered.{sites_of}
+use Rattle.told.specs.ToldReport.{restrictions_at}
+use Rattle.cleaning.specs.Walks.{OnList}
+use Rattle.program.specs.Syntax.{Function, Program}
+use Rattle.index.proofs.First.{Element, element_at}
+use Rattle.index.specs.Layout.{links}
+use Rattle.index.specs.Links.{entry_next}
+use Rattle.index.specs.declared.Plan.{Plan}
+use Rattle.report.proofs.Leaders.{leading_end, leading_next, leading_restrictions, leading_text, next-listed}
+use Rattle.report.specs.Emitting.{Readable}
+use Rattle.report.specs.Leading.{angled_after, angled_if, is_leading, leading_from}
+use Rattle.text.proofs.Fill.{emitted-append, emitted-length, emitted-nothing, emitted-same}
+use Rattle.text.specs.Fill.{Emitted}
+use Rattle.report.proofs.leading.put_restrictions.Given as goal
+
+-- Of the sites of a list: what has been put and what is left is the whole.
+abbrev pub Whole : (b m : List ℕ) (p : Plan) → ℕ → ℕ → List ℕ → ℕ → List ℕ → ℕ → ℕ → Type 0
+Whole b m p f round old at out i place =
+    (w : Program) (x : Function) → Readable b w m p → get_elem? w.functions f ≡ some x
+    → OnList x.name (sites_of w) i
+    × ((r : ℕ) (d : List ℕ) → Emitted out place (flat_map angled_after (leading_from (is_there (fell_of p m) round) x.name (sites_of w) i (drop i (sites_of w)))) r d
+    → Emitted old at (flat_map angled_after (restrictions_at (is_there (fell_of p m) round) x.name (sites_of w))) r d)
+
+abbrev pub invariant-loop-i : goal.invariant-loop-i
+invariant-loop-i l = (length l.out ≡ length l.initial.out) × (l.place ≤ l.at + l.i * 32800) × Whole l.b l.work l.plan l.f l.round l.initial.out l.at l.out l.i l.place
+
+abbrev pub decreases-loop-i : goal.decreases-loop-i
+decreases-loop-i l = l.plan.sites - l.i

@@ -1,0 +1,20 @@
+-- `report::names::is_named_before` meets its contract. Assumes nothing.
+use Prim.Native.Nat.{ℕ, ◌-◌, ◌≤◌}
+use native.Mathlib.Omega.{arith}
+use mathlib.Core.Path.{◌≡◌, sym, ap, ◌∙◌}
+use mathlib.Core.Bool.{false}
+use mathlib.Core.Option.{some}
+use lib.ListN.{get_elem?}
+use Rattle.program.specs.Syntax.{Function, Program}
+use Rattle.patterns.specs.Names.{same_name}
+use Rattle.meaning.specs.Lists.{any}
+use Rattle.report.specs.Emitting.{Readable}
+use Rattle.report.proofs.Places.{function_of}
+use Rattle.report.proofs.Uncharacterised.{names_to, none_before, found_before, none_yet}
+use Rattle.report.proofs.names.is_named_before.Given as goal
+
+abbrev pub invariant-loop-g : goal.invariant-loop-g
+invariant-loop-g l = (l.g ≤ l.f) × ((w : Program) (x : Function) → Readable l.b w l.work l.plan → get_elem? w.functions l.f ≡ some x → any (λ n. same_name n x.name) (names_to l.root w l.g) ≡ false)
+
+abbrev pub decreases-loop-g : goal.decreases-loop-g
+decreases-loop-g l = l.f - l.g

@@ -1,0 +1,28 @@
+-- `report::removed::put_removed` meets its contract. Assumes nothing.
+use Prim.Native.Nat.{◌*◌, ◌+◌, ◌-◌, ◌<◌, ℕ, ◌≤◌}
+use native.Mathlib.Omega.{arith}
+use mathlib.Core.List.{List}
+use mathlib.Core.Path.{refl, ◌∙◌, ◌≡◌}
+use lib.ListN.{length}
+use Rattle.meaning.specs.Cleaning.{round, rounds}
+use Rattle.cleaning.specs.Indexed.{fell_of}
+use Rattle.told.specs.ToldReport.{fallen_from}
+use Rattle.program.specs.Syntax.{Program}
+use Rattle.index.specs.Layout.{lines}
+use Rattle.report.proofs.RemovedLines.{listed-firsts, rest_rounds, rounds-last, rounds-start, rounds_step}
+use Rattle.report.specs.Removed.{Listed, Removing, longest}
+use Rattle.text.proofs.Fill.{emitted-length}
+use Rattle.compare.proofs.Letters.{place}
+use Rattle.report.proofs.removed.put_removed.Given as goal
+
+-- With the lines of what is left, it is the whole.
+abbrev pub invariant-loop-round : goal.invariant-loop-round
+invariant-loop-round l =
+    (length l.out ≡ length l.initial.out)
+    × ((0 < l.round) × (l.round ≤ l.rounds + 1) × (l.place + 4096 * longest ≤ l.at + l.round * (4096 * longest)) × (l.lines + 4096 ≤ l.round * 4096))
+    × ((w : Program) → Removing l.b w l.work l.plan l.rounds → (d : List ℕ) (a j : ℕ)
+    → Listed w (fell_of l.plan l.work) l.rounds (rest_rounds w (fell_of l.plan l.work) l.rounds l.round) l.out l.place l.lines d a j
+    → Listed w (fell_of l.plan l.work) l.rounds (fallen_from w (fell_of l.plan l.work) 1 l.rounds) l.initial.out l.at 0 d a j)
+
+abbrev pub decreases-loop-round : goal.decreases-loop-round
+decreases-loop-round l = l.rounds + 1 - l.round

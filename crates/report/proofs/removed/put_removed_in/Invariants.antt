@@ -1,0 +1,39 @@
+-- `report::removed::put_removed_in` meets its contract. Assumes nothing.
+use Prim.Native.Nat.{◌*◌, ◌+◌, ◌-◌, suc, ℕ, ◌≤◌}
+use native.Mathlib.Omega.{arith}
+use mathlib.Core.List.{List}
+use mathlib.Core.Option.{some}
+use mathlib.Core.Path.{ap, refl, ◌∙◌, ◌≡◌}
+use lib.ListN.{get_elem?, length}
+use Rattle.cleaning.proofs.Owned.{before-later}
+use Rattle.meaning.specs.Cleaning.{round, rounds}
+use Rattle.cleaning.specs.Indexed.{fell_of}
+use Rattle.told.specs.ToldReport.{fallen_of}
+use Rattle.program.specs.Syntax.{Function, Program}
+use Rattle.index.specs.Layout.{lines}
+use Rattle.told.specs.Numbered.{sentences_before}
+use Rattle.report.proofs.Places.{function_of, sentence_of}
+use Rattle.report.proofs.RemovedLines.{rest_of, sentences-end, sentences-start, sentences_step}
+use Rattle.report.proofs.Repeating.{Owned, sentences-within}
+use Rattle.report.specs.Emitting.{Readable}
+use Rattle.report.specs.Removed.{Listed, Removing, longest}
+use Rattle.text.proofs.Fill.{emitted-length}
+use denote.RattleType.{owns}
+use Rattle.report.proofs.removed.put_removed_in.Given as goal
+
+-- Where the walk is, and how far the lines can have come.
+abbrev pub Reached : Program → ℕ → ℕ → ℕ → ℕ → ℕ → ℕ → Type 0
+Reached w f at count s place lines =
+    (sentences_before f w.functions ≤ s) × (s ≤ sentences_before (suc f) w.functions) × (place + sentences_before f w.functions * longest ≤ at + s * longest) × (lines + sentences_before f w.functions ≤ count + s)
+
+-- With the lines of what is left, it is the whole.
+abbrev pub invariant-loop-s : goal.invariant-loop-s
+invariant-loop-s l =
+    (length l.out ≡ length l.initial.out)
+    × ((w : Program) (n : ℕ) → Removing l.b w l.work l.plan n → Reached w l.f l.at l.count l.s l.place l.lines)
+    × ((w : Program) (n : ℕ) (x : Function) → Removing l.b w l.work l.plan n → get_elem? w.functions l.f ≡ some x → (d : List ℕ) (a j : ℕ)
+    → Listed w (fell_of l.plan l.work) n (rest_of w (fell_of l.plan l.work) n l.round l.f x l.s) l.out l.place l.lines d a j
+    → Listed w (fell_of l.plan l.work) n (fallen_of (fell_of l.plan l.work) l.round x (sentences_before l.f w.functions) x.sentences) l.initial.out l.at l.count d a j)
+
+abbrev pub decreases-loop-s : goal.decreases-loop-s
+decreases-loop-s l = l.end - l.s

@@ -1,0 +1,28 @@
+-- `report::repeated::is_repeated` meets its contract. Assumes nothing.
+use Prim.Native.Nat.{◌-◌, ◌<◌, suc, ℕ}
+use native.Mathlib.Omega.{arith}
+use mathlib.Core.Bool.{true}
+use mathlib.Core.Option.{some}
+use mathlib.Core.Path.{sym, ◌≡◌}
+use lib.ListN.{get_elem?}
+use Rattle.cleaning.specs.Indexed.{fell_of}
+use Rattle.program.specs.Sentences.{Sentence, own_sentences}
+use Rattle.program.specs.Syntax.{Function, Program, sentence}
+use Rattle.index.proofs.First.{element_below}
+use Rattle.told.specs.Numbered.{sentences_before}
+use Rattle.report.proofs.FallenList.{repeated_never, repeated_printing}
+use Rattle.report.proofs.Places.{function_of}
+use Rattle.report.proofs.Repeating.{none-function}
+use Rattle.report.specs.Emitting.{Readable}
+use Rattle.report.specs.Removed.{NonePrinting}
+use Rattle.patterns.specs.Names.{same_name}
+use Rattle.report.proofs.repeated.is_repeated.Given as goal
+
+-- No function before g has such a sentence.
+abbrev pub invariant-loop-g : goal.invariant-loop-g
+invariant-loop-g l =
+    (w : Program) (x : Function) (y : Sentence) → Readable l.b w l.work l.plan → get_elem? w.functions l.f ≡ some x → get_elem? (own_sentences w.functions) l.s ≡ some y
+    → (h : ℕ) (v : Function) → h < l.g → get_elem? w.functions h ≡ some v → same_name v.name x.name ≡ true → NonePrinting (fell_of l.plan l.work) l.round l.s y.pattern (own_sentences w.functions) (sentences_before h w.functions) (sentences_before (suc h) w.functions)
+
+abbrev pub decreases-loop-g : goal.decreases-loop-g
+decreases-loop-g l = l.plan.functions - l.g

@@ -1,0 +1,27 @@
+-- `report::repeated::printed_in` meets its contract. Assumes nothing.
+use Prim.Native.Nat.{◌+◌, ◌-◌, suc, ℕ, ◌≤◌}
+use native.Mathlib.Omega.{arith}
+use mathlib.Core.Bool.{false≢true, true≢false}
+use mathlib.Core.Option.{some}
+use mathlib.Core.Path.{ap, sym, ◌∙◌, ◌≡◌}
+use lib.ListN.{get_elem?}
+use Rattle.meaning.specs.Cleaning.{round}
+use Rattle.cleaning.specs.Indexed.{fell_of}
+use Rattle.program.specs.Sentences.{Sentence, own_sentences}
+use Rattle.program.specs.Syntax.{Program, number}
+use Rattle.told.specs.Numbered.{sentences_before}
+use Rattle.report.proofs.Places.{sentence_of}
+use Rattle.report.proofs.Repeating.{none_first, none-next, sentences-within}
+use Rattle.report.specs.Emitting.{Readable}
+use Rattle.report.specs.Removed.{NonePrinting}
+use denote.Exit.{no, yes}
+use Rattle.report.proofs.repeated.printed_in.Given as goal
+
+-- No sentence before t is such.
+abbrev pub invariant-loop-t : goal.invariant-loop-t
+invariant-loop-t l =
+    (w : Program) (y : Sentence) → Readable l.b w l.work l.plan → get_elem? (own_sentences w.functions) l.s ≡ some y
+    → (sentences_before l.g w.functions ≤ l.t) × NonePrinting (fell_of l.plan l.work) l.round l.s y.pattern (own_sentences w.functions) (sentences_before l.g w.functions) l.t
+
+abbrev pub decreases-loop-t : goal.decreases-loop-t
+decreases-loop-t l = l.end - l.t

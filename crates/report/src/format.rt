@@ -19,7 +19,7 @@ use crate::uncovered::put_uncovered;
 use crate::undecided::put_undecided;
 use index::Plan;
 use text::counts::{put_count_line, put_graph, put_top};
-use text::writer::{Writer, with_graph, with_top, with_unchanged};
+use text::writer::{Writer, write_graph, write_top, write_unchanged};
 
 // The numbers of a report: sentences left, the lines of its lists, the names that are uncharacterised, and the bytes of those.
 #[derive(Clone, Copy)]
@@ -40,12 +40,12 @@ pub fn format_unchanged(out: &mut [u8], functions: usize, sentences: usize) -> u
     requires { (functions < 100000000000000000) × (sentences < 100000000000000000) }
     ensures { (w : Program) → length w.functions ≡ functions → own_sentence_count w.functions ≡ sentences → Emitted out.old 0 (format_clean_report (unchanged_report w)) result out.new }
 {
-    let w = Writer {
+    let mut w = Writer {
         text: out,
         filled: 0,
     };
-    let all = with_unchanged(w, functions, sentences);
-    all.filled
+    write_unchanged(&mut w, functions, sentences);
+    w.filled
 }
 
 // The numbers of the report, with so many sentences left after so many rounds; the lists are emitted into no text.
@@ -123,24 +123,21 @@ fn put_listed(
 }
 
 // The lists, through the writing end.
-fn with_lists<'b, 'c, 'a>(
+fn write_lists<'b, 'c, 'a>(
     b: &'b [u8],
     work: &'c mut [u32],
     plan: Plan,
     root: usize,
     rounds: usize,
     figures: Figures,
-    w: Writer<'a>,
-) -> Writer<'a>
-    requires { SomeReporting b.now work.old plan rounds figures × (rounds < 4096) × (w.filled ≤ 1000) }
-    ensures { ((p : Program) → Reporting b.now p work.old plan rounds figures → result ≡ written w.entry (listed_text p root (fell_of plan work.old) rounds)) × (result.filled ≤ 1000000001000000000) × Used plan work.old work.new }
+    w: &mut Writer<'a>,
+)
+    requires { SomeReporting b.now work.old plan rounds figures × (rounds < 4096) × (w.old.filled ≤ 1000) }
+    ensures { ((p : Program) → Reporting b.now p work.old plan rounds figures → w.new ≡ written w.old (listed_text p root (fell_of plan work.old) rounds)) × (w.new.filled ≤ 1000000001000000000) × Used plan work.old work.new × (w.new.text.ghost_name ≡ w.old.text.ghost_name) }
 {
     let at = w.filled;
     let next = put_listed(b, work, plan, root, rounds, figures, &mut *w.text, at);
-    Writer {
-        text: w.text,
-        filled: next,
-    }
+    w.filled = next;
 }
 
 // The report of a program that was cleaned in so many rounds: all of it goes through
@@ -158,27 +155,27 @@ pub fn format_clean_report(
     ensures written { (w : Program) → Reporting b.now w work.old plan rounds figures → root ≡ root_place w → Emitted out.old 0 (format_clean_report (told_report w (fell_of plan work.old) rounds)) result out.new }
     ensures keeps { Used plan work.old work.new }
 {
-    let w = Writer {
+    let mut w = Writer {
         text: out,
         filled: 0,
     };
-    let top = with_top(
-        w,
+    write_top(
+        &mut w,
         plan.functions,
         plan.sentences,
         figures.after,
         rounds,
         figures.removed,
     );
-    let lists = with_lists(b, work, plan, root, rounds, figures, top);
-    let all = with_graph(
-        lists,
+    write_lists(b, work, plan, root, rounds, figures, &mut w);
+    write_graph(
+        &mut w,
         plan.functions,
         figures.undecided,
         figures.uncovered,
         figures.uncharacterised,
     );
-    all.filled
+    w.filled
 }
 
 // Where the same report ends, emitted into no text: the lengths of the lists and of the line of names stand for them.

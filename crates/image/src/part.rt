@@ -17,7 +17,7 @@ fn byte_or(s: &[u8], i: usize) -> usize
 }
 
 // How many bytes belong to the mark at p.
-pub fn fields_of(s: &[u8], p: usize) -> usize
+fn fields_of(s: &[u8], p: usize) -> usize
     requires { p < length s.now }
     ensures { (result ≡ fields (get_or s.now p 0) (drop (suc p) s.now)) × (result < 512) }
 {
@@ -39,7 +39,7 @@ pub fn fields_of(s: &[u8], p: usize) -> usize
 }
 
 // How many closes are owed after the mark m.
-pub fn owed_after(m: u8, need: usize) -> usize
+fn owed_after(m: u8, need: usize) -> usize
     requires { (0 < need) × (need < 18446744073709551614) }
     ensures { (result ≡ owed m (need - 1)) × (result ≤ need + 2) }
 {
@@ -54,7 +54,7 @@ pub fn owed_after(m: u8, need: usize) -> usize
     }
 }
 
-pub fn least(a: usize, b: usize) -> usize
+fn least(a: usize, b: usize) -> usize
     ensures { result ≡ min a b }
 {
     if a <= b { a } else { b }

@@ -17,4 +17,3 @@ pub mod Whole
 pub mod RoomUsed
 pub mod Fits
 pub mod Short
-pub mod Carry

@@ -1,19 +1,19 @@
 -- What the entry points promise, one page: each promise is a theorem, proved by citing.
 -- The code meets these definitions, with no `requires`: `cleaner::overlap` ensures `r ≡ overlap_answer image first second` for every image and numbers, and `cleaner::clean` ensures that its answer and the three lent slices at exit are those of `cleanAnswer image lent`, for every image and every lent length. `cleaner::overlap_expression` ensures that its answer and the lent slice at exit are those of `expressionAnswer image first second lent`. Under the C names `showclean_clean`, `showclean_overlap` and `showclean_overlap_expression` ensure that the number returned is `pack_clean`, `pack_overlap` and `pack_expression` of the same answers.
-use Prim.Native.Nat.{ℕ, ◌+◌, ◌-◌, ◌*◌, ◌/◌, ◌%◌, ◌<◌, ◌≤◌}
+use Prim.Native.Nat.{ℕ, ◌+◌, ◌*◌, ◌/◌, ◌%◌, ◌<◌, ◌≤◌}
 use native.Mathlib.Omega.{arith}
 use mathlib.Core.Path.{◌≡◌, refl, sym, ap, subst, ◌∙◌}
 use mathlib.Core.Logic.{◌↔◌, ◌⊎◌, inl, inr}
-use mathlib.Core.Bool.{Bool, true, false, cond}
-use mathlib.Core.List.{List, [], ◌∷◌, ◌++◌}
+use mathlib.Core.Bool.{cond}
+use mathlib.Core.List.{List, [], ◌∷◌}
 use lib.Dec.{eqb}
-use lib.ListN.{length, take, drop, get_elem?}
+use lib.ListN.{length, take, drop}
 use Rattle.program.specs.Syntax.{Terms, Program}
 use Rattle.program.specs.Bytes.{Bytes}
 use Rattle.program.specs.Encode.{encode}
 use Rattle.program.specs.Limits.{Valid}
 use Rattle.program.specs.Decode.{Answer, decode}
-use Rattle.program.specs.Sentences.{Sentence, own_sentences}
+use Rattle.program.specs.Sentences.{Sentence}
 use Rattle.program.proofs.RoundTrip.{decodes, decode-encode, encode-decode}
 use Rattle.program.proofs.Own.{numbered-valid}
 use Rattle.patterns.specs.declared.Verdict.TheVariants.{Disjoint, Overlap, Unknown}
@@ -45,13 +45,13 @@ use Rattle.meaning.proofs.Bound.{all_rounds_few, all_dropped_add_up}
 use Rattle.meaning.proofs.Twice.{clean_twice, twice_removed, twice_rounds}
 use Rattle.answers.specs.declared.CleanAnswer.{CleanAnswer}
 use Rattle.answers.specs.declared.OverlapAnswer.{OverlapAnswer}
-use Rattle.answers.specs.Answers.{compare_patterns, overlap_answer, OverlapValues, refusal_values, comparison_values, verdict_number, overlap_values}
+use Rattle.answers.specs.Answers.{compare_patterns, overlap_answer, comparison_values, verdict_number, overlap_values}
 use Rattle.answers.specs.CleanAnswers.{Lent, Left, cleaned_to, zeroed, written, clean_answer, CleanValues, clean_values}
 use Rattle.answers.specs.Packed.{clean_fields, overlap_fields, pack_clean, pack_overlap, CleanFits}
 use Rattle.answers.specs.ExpressionAnswers.{ExpressionLeft, shared_expression, of_verdict, expression_answer, ExpressionValues, expression_values, expression_fields, pack_expression}
 use Rattle.answers.specs.RunAnswers.{RunLeft, ending_number, stop_bytes, run_of, run_answer, RunValues, run_values}
 use Rattle.answers.proofs.Fitting.{Unpacks, unpacks, overlap_fits}
-use Rattle.answers.proofs.Exactly.{CleanRefuses, CleanAccepts, untouched, clean_refuses, clean_accepts, clean_case, clean_number, OverlapRefuses, OverlapAccepts, overlap_refuses, overlap_accepts, overlap_case, overlap_number}
+use Rattle.answers.proofs.Exactly.{CleanRefuses, CleanAccepts, untouched, clean_refuses, clean_accepts, clean_case, clean_number, OverlapRefuses, OverlapAccepts, overlap_refuses, overlap_accepts, overlap_number}
 use Rattle.answers.proofs.SharedExpression.{ExpressionRefuses, ExpressionAccepts, expression_refuses, expression_accepts, expression-number, expression-told, expression_zero, expression-fits, meeting_coded, overlap_shared}
 use Rattle.answers.proofs.RunExactly.{Runs, RunRefuses, RunEnds, run_refused-before, run_ends, run-number, run-told, run_zero, run-wrote, bytes_fit, events-first, value-behind, same_inputs}
 use Rattle.answers.proofs.Numbers.{clean_told, clean_refused-told, overlap_told, overlap_refused-told, written_back, written-past, written-length}

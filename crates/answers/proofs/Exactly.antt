@@ -6,7 +6,7 @@ use mathlib.Core.Logic.{◌⊎◌, inl, inr}
 use mathlib.Core.Bool.{Bool, true, false, cond}
 use mathlib.Core.List.{List, [], ◌∷◌}
 use mathlib.Core.Option.{Option, none, some}
-use lib.Dec.{ltb, leb, eqb}
+use lib.Dec.{ltb, eqb}
 use lib.ListN.{length, take, get_elem?}
 use borrow.Author.Tests.{ltb-true, ltb-false, lt-ltb, le-ltb, eqb-true}
 use Rattle.program.specs.Syntax.{Program}
@@ -20,10 +20,8 @@ use Rattle.program.proofs.Own.{own-counted}
 use Rattle.meaning.specs.Cleaning.{clean_residual_program}
 use Rattle.meaning.specs.CleanReport.{clean_report}
 use Rattle.meaning.specs.Report.{format_clean_report}
-use Rattle.answers.specs.declared.CleanAnswer.{CleanAnswer}
-use Rattle.answers.specs.declared.OverlapAnswer.{OverlapAnswer}
 use Rattle.answers.specs.Answers.{overlap_refused, compare_patterns, compare_found, compare_sentences, overlap_of, overlap_answer}
-use Rattle.answers.specs.CleanAnswers.{Lent, Left, clean_refused, cleaned_to, refusing, zeroed, written, writing, clean_decoded, entries_for, clean_answer}
+use Rattle.answers.specs.CleanAnswers.{Lent, clean_refused, cleaned_to, refusing, zeroed, written, writing, clean_decoded, entries_for, clean_answer}
 
 -- ---- the conditions
 

@@ -1,7 +1,7 @@
 -- A run's answer: when it is refused, what stands in the lent list then and otherwise, and that the numbers tell the case.
-use Prim.Native.Nat.{ℕ, ◌+◌, ◌<◌, ◌≤◌}
+use Prim.Native.Nat.{ℕ, ◌+◌, ◌≤◌}
 use native.Mathlib.Omega.{arith}
-use mathlib.Core.Path.{◌≡◌, refl, sym, ap, ap₂, subst, ◌∙◌}
+use mathlib.Core.Path.{◌≡◌, refl, sym, ap, subst, ◌∙◌}
 use mathlib.Core.Logic.{◌⊎◌, inl, inr}
 use mathlib.Core.Bool.{Bool, true, false}
 use mathlib.Core.List.{List, [], ◌∷◌, ◌++◌, append_assoc}
@@ -17,14 +17,14 @@ use Rattle.patterns.proofs.Marks.{expression-splits}
 use Rattle.meaning.specs.Run.{Event, Ending, value, no_root, no_answer_left, nothing_fitting, variable_unbound, call_limit}
 use Rattle.meaning.specs.Records.{put_events, bytes_of, event_bytes}
 use Rattle.meaning.specs.Inputs.{input_of, answers_of}
-use Rattle.meaning.specs.Watch.{Watch, Stop, ended, too_heavy, too_long, WatchedOutcome, lent, watched_run}
+use Rattle.meaning.specs.Watch.{Stop, ended, too_heavy, too_long, WatchedOutcome, lent, watched_run}
 use Rattle.meaning.specs.Cleaning.{clean_residual_program}
 use Rattle.meaning.proofs.SameRun.{same_watched}
 use Rattle.meaning.proofs.Space.{told-fits, value_told_fits}
 use Rattle.meaning.proofs.Told.{events-splits, events-length}
 use Rattle.answers.specs.declared.RunAnswer.{RunAnswer}
 use Rattle.answers.specs.CleanAnswers.{written}
-use Rattle.answers.specs.RunAnswers.{RunLeft, run_refused, refusing_run, ending_number, stop_answer, ending_bytes, stop_bytes, ran_to, run_inputs, run_of, run_answer, RunValues, run_values}
+use Rattle.answers.specs.RunAnswers.{RunLeft, run_refused, refusing_run, ending_number, stop_answer, ending_bytes, stop_bytes, ran_to, run_inputs, run_of, run_answer, run_values}
 use Rattle.answers.proofs.Exactly.{ImageRefuses, image_refused, image_number, ImageCase, image_case}
 
 module _ (image input answers : List ℕ) where

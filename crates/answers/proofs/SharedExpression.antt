@@ -3,16 +3,16 @@ use Prim.Native.Nat.{ℕ, zero, suc, ◌+◌, ◌*◌, ◌<◌, ◌≤◌}
 use native.Mathlib.Omega.{arith}
 use mathlib.Core.Path.{◌≡◌, refl, sym, ap, subst, ◌∙◌}
 use mathlib.Core.Logic.{◌⊎◌, inl, inr}
-use mathlib.Core.Bool.{Bool, true, false, cond}
+use mathlib.Core.Bool.{Bool, true, false}
 use mathlib.Core.List.{List, [], ◌∷◌, ◌++◌}
 use mathlib.Core.Option.{Option, none, some}
 use lib.Dec.{ltb}
 use lib.ListN.{length, length-append, get_elem?}
 use borrow.Author.Tests.{ltb-true, ltb-false, lt-ltb, le-ltb}
-use Rattle.program.specs.Syntax.{Terms, Sentences, Function, Program}
+use Rattle.program.specs.Syntax.{Terms, Sentences, Function}
 use Rattle.program.specs.Bytes.{Bytes, put_name}
-use Rattle.program.specs.Encode.{put_head, put_terms, put_conditions, put_sentences, visibility_byte, put_function, put_functions, encode}
-use Rattle.program.specs.Decode.{Answer, decode, decode_sized}
+use Rattle.program.specs.Encode.{put_terms, put_conditions, put_sentences, visibility_byte, put_function, put_functions}
+use Rattle.program.specs.Decode.{decode}
 use Rattle.program.specs.Sentences.{Sentence, sentence_list, own_sentences}
 use Rattle.program.proofs.Lengths.{span-length, name-length, head-length, terms-length, conditions-length, sentences-length, body-length, encode-length}
 use Rattle.program.proofs.Splits.{terms-splits}

@@ -1,6 +1,5 @@
 -- What Clean answers and leaves, on any bytes and any lent lengths.
-use Rattle.std.specs.Prelude.{ℕ, ◌+◌, ◌/◌, Bool, cond, List, ◌++◌, map, ltb, length, drop}
-use Rattle.program.specs.Syntax.{Program}
+use Rattle.std.specs.Prelude.{ℕ, ◌+◌, ◌/◌, cond, List, ◌++◌, map, ltb, length, drop}
 use Rattle.program.specs.Encode.{encode}
 use Rattle.program.specs.Decode.{Answer, sized, decode}
 use Rattle.meaning.specs.Cleaning.{clean_residual_program}

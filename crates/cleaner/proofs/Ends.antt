@@ -1,14 +1,12 @@
 -- How Clean ends: on each refusal, and where the image is accepted.
-use Prim.Native.Nat.{ℕ, zero, suc, ◌+◌, ◌/◌, ◌≤◌, ◌<◌}
+use Prim.Native.Nat.{ℕ, suc, ◌+◌, ◌/◌, ◌≤◌, ◌<◌}
 use native.Mathlib.Omega.{arith}
 use mathlib.Core.Path.{◌≡◌, refl, sym, ap, ap₂, subst, ◌∙◌}
 use mathlib.Core.Bool.{Bool, true, false, cond}
-use mathlib.Core.List.{List, [], ◌∷◌, map}
-use lib.Dec.{leb, ltb}
+use mathlib.Core.List.{List, [], ◌∷◌}
+use lib.Dec.{ltb}
 use lib.ListN.{length, get_or}
-use borrow.Author.Tests.{le-leb, lt-leb, lt-ltb, le-ltb}
-use Rattle.program.specs.Syntax.{Program}
-use Rattle.program.specs.Limits.{pick}
+use borrow.Author.Tests.{le-leb, lt-leb, le-ltb}
 use Rattle.program.specs.Decode.{Answer, sized, decode}
 use Rattle.image.specs.Parts.{Accepted}
 use Rattle.program.specs.Encode.{encode}

@@ -1,11 +1,10 @@
 -- What is left of two patterns, by the verdict of the search and the length that was counted.
-use Prim.Native.Nat.{ℕ, ◌+◌, ◌-◌, ◌<◌, ◌≤◌}
+use Prim.Native.Nat.{ℕ, ◌-◌, ◌<◌, ◌≤◌}
 use native.Mathlib.Omega.{arith}
 use mathlib.Core.Path.{◌≡◌, refl, sym, ap, ◌∙◌}
-use mathlib.Core.Bool.{Bool, true, false, not, true≢false, cond}
-use mathlib.Core.List.{List, [], ◌++◌}
-use lib.Dec.{ltb}
-use lib.ListN.{length, drop}
+use mathlib.Core.Bool.{Bool, true, false, not, true≢false}
+use mathlib.Core.List.{List, []}
+use lib.ListN.{length}
 use borrow.Author.Tests.{lt-ltb, le-ltb}
 use Rattle.program.specs.Syntax.{Terms}
 use Rattle.patterns.specs.declared.Verdict.{Verdict}

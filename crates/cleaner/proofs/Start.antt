@@ -1,17 +1,15 @@
 -- What Clean begins with: an accepted image's body, its functions, and whether it dispatches at run time.
-use Prim.Native.Nat.{ℕ, ◌+◌, ◌-◌, ◌*◌, ◌/◌, ◌≤◌, ◌<◌}
+use Prim.Native.Nat.{ℕ, ◌+◌, ◌/◌, ◌≤◌}
 use native.Mathlib.Omega.{arith}
 use mathlib.Core.Path.{◌≡◌, refl, sym, ap, subst, ◌∙◌}
-use mathlib.Core.Bool.{Bool, true, false}
-use mathlib.Core.List.{List, map}
+use mathlib.Core.Bool.{false}
+use mathlib.Core.List.{List}
 use lib.ListN.{length, take, drop}
 use lib.Seq.{length-take-le}
 use Rattle.program.specs.Syntax.{Program}
-use Rattle.program.specs.Encode.{put_functions, own_sentence_count, encode}
-use Rattle.program.specs.Limits.{Valid}
+use Rattle.program.specs.Encode.{put_functions, own_sentence_count}
 use Rattle.program.specs.Decode.{body_length}
-use Rattle.program.specs.Sentences.{own_sentences}
-use Rattle.image.specs.Parts.{FunctionsAt, Accepted}
+use Rattle.image.specs.Parts.{Accepted}
 use Rattle.program.specs.Bytes.{Bytes}
 use Rattle.program.proofs.RoundTrip.{encode-decode}
 use Rattle.image.proofs.Accepted.{accepted-long}
@@ -25,7 +23,7 @@ use Rattle.index.specs.declared.Plan.{Plan}
 use Rattle.index.specs.Layout.{calls}
 use Rattle.index.specs.Tables.{SitesAt}
 use Rattle.index.specs.Linking.{SomeSites}
-use Rattle.cleaning.specs.Prepared.{BodyOf, Enough, SomeProgram, ProgramListed}
+use Rattle.cleaning.specs.Prepared.{BodyOf, SomeProgram, ProgramListed}
 use Rattle.told.proofs.Asked.{map-any}
 use Rattle.cleaner.specs.Delivery.{Delivery}
 use Rattle.cleaner.specs.Done.{Done}

@@ -1,11 +1,10 @@
 -- What is written when the text fits, and what is left when it does not.
 use Prim.Native.Nat.{ℕ, ◌+◌, ◌≤◌, ◌<◌}
 use native.Mathlib.Omega.{arith}
-use mathlib.Core.Path.{◌≡◌, refl, sym, ap, ap₂, ◌∙◌, subst}
-use mathlib.Core.Bool.{Bool, true, false, cond}
-use mathlib.Core.List.{List, [], ◌∷◌, ◌++◌}
-use lib.Dec.{ltb}
-use lib.ListN.{length, take, drop}
+use mathlib.Core.Path.{◌≡◌, sym, ap, ap₂, ◌∙◌, subst}
+use mathlib.Core.Bool.{true}
+use mathlib.Core.List.{List, [], ◌++◌}
+use lib.ListN.{length, drop}
 use lib.Seq.{paste, take-length}
 use borrow.Author.Tests.{lt-ltb, le-ltb}
 use Rattle.program.specs.Syntax.{Program}
@@ -16,12 +15,11 @@ use Rattle.program.proofs.RoundTrip.{encode-decode}
 use Rattle.meaning.specs.Dispatch.{residual_dispatches_dynamically}
 use Rattle.told.proofs.ToldReport.{dynamic_cleaned}
 use Rattle.meaning.specs.Cleaning.{clean_residual_program}
-use Rattle.meaning.specs.CleanReport.{CleanReport, clean_report}
+use Rattle.meaning.specs.CleanReport.{clean_report}
 use Rattle.meaning.specs.Text.{Text}
-use Rattle.text.specs.Fill.{Emitted, filled}
+use Rattle.text.specs.Fill.{Emitted}
 use Rattle.meaning.specs.Report.{format_clean_report}
 use Rattle.text.proofs.Fill.{filled-start, filled-empty}
-use Rattle.answers.specs.declared.CleanAnswer.{CleanAnswer}
 use Rattle.answers.specs.CleanAnswers.{Left, clean_refused, cleaned_to, zeroed, written, writing, lending}
 use Rattle.cleaner.specs.Writing.{writing_of, Wrote}
 

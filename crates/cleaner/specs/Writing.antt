@@ -1,9 +1,7 @@
 -- What the parts of Clean's code leave, for an accepted image.
-use Rattle.std.specs.Prelude.{ℕ, ◌<◌, ◌≤◌, ◌≡◌, Bool, List, length}
+use Rattle.std.specs.Prelude.{ℕ, ◌<◌, ◌≡◌, List, length}
 use Rattle.program.specs.Syntax.{Program}
 use Rattle.program.specs.Encode.{encode}
-use Rattle.program.specs.Decode.{Answer, decode}
-use Rattle.program.specs.Bytes.{Bytes}
 use Rattle.meaning.specs.Cleaning.{clean_residual_program}
 use Rattle.meaning.specs.CleanReport.{clean_report}
 use Rattle.meaning.specs.Report.{format_clean_report}

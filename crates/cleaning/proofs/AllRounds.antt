@@ -15,7 +15,7 @@ use Rattle.index.specs.declared.Plan.{Plan}
 use Rattle.index.specs.Layout.{witnesses}
 use Rattle.index.proofs.First.{element_below}
 use Rattle.meaning.specs.Root.{root_place}
-use Rattle.meaning.specs.Cleaning.{round, is_root}
+use Rattle.meaning.specs.Cleaning.{is_root}
 use Rattle.told.specs.Kept.{kept_program}
 use Rattle.told.specs.History.{is_there, FunctionsLeft, RoundTold, start_of, some_number, some_fell}
 use Rattle.told.specs.Numbered.{sites_of}

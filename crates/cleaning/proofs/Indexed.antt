@@ -13,13 +13,13 @@ use Rattle.program.specs.Sentences.{Sentence, own_sentences}
 use Rattle.image.specs.Parts.{SentenceAt}
 use Rattle.meaning.specs.Sites.{Site}
 use Rattle.told.specs.Numbered.{Held, held_by, own_sites, held_sites, sentences_before, sites_of}
-use Rattle.restrictions.specs.Entries.{Entry, entry_sentence}
+use Rattle.restrictions.specs.Entries.{Entry}
 use Rattle.index.specs.declared.Plan.{Plan}
-use Rattle.index.specs.Layout.{heads, lines, marks, calls, links}
+use Rattle.index.specs.Layout.{heads, lines, calls, links}
 use Rattle.index.specs.First.{First}
 use Rattle.index.specs.Tables.{FunctionEntry, SentenceEntry}
 use Rattle.told.specs.Calls.{is_listed}
-use Rattle.index.specs.Links.{list_head, entry_next, entry_class, is_repeat, Chain, Classed}
+use Rattle.index.specs.Links.{list_head, entry_next, entry_class, is_repeat}
 use Rattle.index.proofs.First.{element_below}
 use Rattle.told.specs.Asked.{restricts, is_met, meets}
 use Rattle.cleaning.specs.Indexed.{Indexed, fell_of, OnlyRounds}

@@ -2,12 +2,11 @@
 use Prim.Native.Nat.{ℕ, suc, ◌+◌, ◌<◌, ◌≤◌}
 use native.Mathlib.Omega.{arith}
 use mathlib.Core.Path.{◌≡◌, refl, sym, ap, subst, ◌∙◌}
-use mathlib.Core.Bool.{Bool, true, false, ◌&&◌, not, true≢false, false≢true, and-eq-true_iff}
+use mathlib.Core.Bool.{Bool, true, false, ◌&&◌, not, false≢true, and-eq-true_iff}
 use mathlib.Core.List.{List}
 use mathlib.Core.Option.{some}
 use lib.ListN.{length, get_or, get_elem?, drop, length-drop}
 use Rattle.program.specs.Syntax.{Name, Terms, Function, Program}
-use Rattle.program.specs.Encode.{put_terms}
 use Rattle.program.specs.Limits.{Mode}
 use Rattle.image.specs.Parts.{TermsAt}
 use Rattle.image.proofs.Readings.{terms-room}
@@ -27,7 +26,7 @@ use Rattle.index.specs.Layout.{heads, calls, links}
 use Rattle.index.specs.First.{First}
 use Rattle.told.specs.Calls.{is_listed}
 use Rattle.index.specs.Links.{list_head, entry_next, entry_class, is_repeat}
-use Rattle.index.specs.Lists.{ListAt, Among}
+use Rattle.index.specs.Lists.{ListAt}
 use Rattle.index.proofs.First.{Element, element_at, element_below}
 use Rattle.meaning.specs.Cleaning.{is_disjoint}
 use Rattle.told.specs.Asked.{restricts, is_met, meets}

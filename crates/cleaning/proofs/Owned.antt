@@ -1,19 +1,18 @@
 -- Each sentence is one of its function's own, by number.
 use Prim.Native.Nat.{ℕ, zero, suc, ◌+◌, ◌-◌, ◌≤◌, ◌<◌}
 use native.Mathlib.Omega.{arith}
-use mathlib.Core.Path.{◌≡◌, refl, sym, ap, ◌∙◌, subst}
+use mathlib.Core.Path.{◌≡◌, refl, sym, ap, ◌∙◌}
 use mathlib.Core.List.{List, [], ◌∷◌, ◌++◌}
 use mathlib.Core.Bool.{Bool, true, false}
-use mathlib.Core.Option.{Option, none, some, some-ne-none, some-injective}
+use mathlib.Core.Option.{some, some-ne-none, some-injective}
 use lib.Dec.{ltb}
 use borrow.Author.Tests.{ltb-true, ltb-false}
-use lib.ListN.{length, get_elem?, length-append}
-use Rattle.program.specs.Syntax.{Sentences, empty, sentence, Function, Program}
+use lib.ListN.{length, get_elem?}
+use Rattle.program.specs.Syntax.{Function}
 use Rattle.program.specs.Encode.{sentence_count, own_sentence_count}
-use Rattle.program.specs.Sentences.{Sentence, sentence_list, own_sentences}
-use Rattle.program.proofs.Own.{sentences-counted, own-counted}
+use Rattle.program.specs.Sentences.{sentence_list, own_sentences}
+use Rattle.program.proofs.Own.{sentences-counted}
 use Rattle.told.specs.Numbered.{sentences_before}
-use Rattle.cleaning.specs.Walks.{Owns}
 
 -- ---- elements of two lists, one behind the other
 

@@ -1,9 +1,9 @@
 -- What asking verdicts leaves: the columns as they were.
-use Prim.Native.Nat.{ℕ, ◌+◌, ◌-◌, ◌%◌, ◌<◌, ◌≤◌}
+use Prim.Native.Nat.{ℕ, ◌+◌, ◌-◌, ◌%◌, ◌≤◌}
 use native.Mathlib.Omega.{arith}
 use mathlib.Core.Path.{◌≡◌, refl, ap, ◌∙◌}
 use mathlib.Core.List.{List, ◌++◌}
-use lib.ListN.{length, get_or, set, take, length-set, get_or-append}
+use lib.ListN.{length, set, take, length-set, get_or-append}
 use lib.Seq.{get_or-take, get_or-set_other, length-take-le}
 use borrow.Rule.Slice.PartMut.{mid_of, post_of, put_mid, same_len_mid}
 use Rattle.program.specs.Syntax.{Program}

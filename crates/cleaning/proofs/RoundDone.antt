@@ -1,23 +1,22 @@
 -- A round that is done with every function is the one that the numbers tell.
-use Prim.Native.Nat.{ℕ, zero, suc, ◌+◌, ◌-◌, ◌≤◌, ◌<◌}
+use Prim.Native.Nat.{ℕ, suc, ◌+◌, ◌≤◌, ◌<◌}
 use native.Mathlib.Omega.{arith}
 use mathlib.Core.Path.{◌≡◌, refl, sym, ap, ap₂, fun_ext, ◌∙◌, subst}
-use mathlib.Core.Bool.{Bool, true, false, ◌&&◌, ◌||◌, not, cond, true≢false, false≢true, or-true}
+use mathlib.Core.Bool.{Bool, true, false, ◌&&◌, ◌||◌, not, cond, or-true}
 use mathlib.Core.List.{List, [], ◌∷◌}
 use mathlib.Core.Option.{some}
 use lib.Dec.{eqb, leb, ltb}
 use lib.ListN.{length, get_elem?}
-use borrow.Author.Tests.{eqb-true, eq-eqb, ltb-true, ltb-false, le-leb, lt-leb, ne_eqb}
+use borrow.Author.Tests.{ltb-true, ltb-false, le-leb, lt-leb, ne_eqb}
 use Rattle.program.specs.Syntax.{Terms, Sentences, empty, sentence, Function, Program}
-use Rattle.program.specs.Encode.{sentence_count, own_sentence_count}
+use Rattle.program.specs.Encode.{sentence_count}
 use Rattle.program.specs.Sentences.{Sentence, sentence_list, own_sentences}
 use Rattle.told.specs.Numbered.{Held, sentences_before, sites_of}
-use Rattle.program.proofs.Own.{sentences-counted, own-counted}
+use Rattle.program.proofs.Own.{own-counted}
 use Rattle.index.proofs.First.{Element, element_at, element_below}
 use Rattle.meaning.specs.Root.{root_place}
 use Rattle.told.specs.History.{is_there, some_accepted, SentencesLeft, rejects, FunctionsLeft, RoundTold}
-use Rattle.cleaning.specs.Walks.{Owns}
-use Rattle.cleaning.specs.RoundDone.{rejects_in, some_in, FunctionDone, RoundSoFar}
+use Rattle.cleaning.specs.RoundDone.{rejects_in, some_in, RoundSoFar}
 use Rattle.cleaning.proofs.Owned.{before-next, before_most, before-later, own_element, Owner, owner}
 
 -- ---- from numbers to lists

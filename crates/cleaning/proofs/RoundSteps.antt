@@ -1,24 +1,23 @@
 -- A round goes on from one function to the next.
-use Prim.Native.Nat.{ℕ, zero, suc, ◌+◌, ◌-◌, ◌≤◌, ◌<◌}
+use Prim.Native.Nat.{ℕ, zero, suc, ◌+◌, ◌≤◌, ◌<◌}
 use native.Mathlib.Omega.{arith}
-use mathlib.Core.Path.{◌≡◌, refl, sym, ap, ap₂, fun_ext, ◌∙◌, subst}
-use mathlib.Core.Bool.{Bool, true, false, ◌&&◌, ◌||◌, not, cond, true≢false, false≢true, or-true}
-use mathlib.Core.List.{List, [], ◌∷◌}
+use mathlib.Core.Path.{◌≡◌, refl, sym, ap, ap₂, ◌∙◌, subst}
+use mathlib.Core.Bool.{Bool, true, false, ◌&&◌, ◌||◌, not, cond, true≢false, false≢true}
+use mathlib.Core.List.{List}
 use mathlib.Core.Option.{some, some-injective}
 use lib.Dec.{eqb, leb, ltb}
-use lib.ListN.{length, get_elem?}
+use lib.ListN.{get_elem?}
 use borrow.Author.Tests.{eqb-true, eqb-false, eq-eqb, ne_eqb, ltb-true, ltb-false, le-leb, lt-leb}
 use Rattle.program.specs.Syntax.{Terms, Sentences, empty, sentence, Function, Program}
 use Rattle.program.specs.Encode.{sentence_count, own_sentence_count}
 use Rattle.program.specs.Sentences.{Sentence, sentence_list, own_sentences}
 use Rattle.meaning.specs.Lists.{any}
-use Rattle.program.proofs.Own.{sentences-counted}
 use Rattle.told.specs.Numbered.{sentences_before, sites_of}
 use Rattle.meaning.specs.Root.{root_place}
 use Rattle.told.specs.Asked.{meets, is_judged, is_rejected}
 use Rattle.told.specs.History.{is_there, some_accepted, rejects, some_number, some_fell}
 use Rattle.cleaning.specs.Walks.{Owns}
-use Rattle.cleaning.specs.RoundDone.{rejects_in, some_in, FunctionDone, RoundSoFar, is_met_by, OneMet, Changed, OneFell}
+use Rattle.cleaning.specs.RoundDone.{rejects_in, some_in, FunctionDone, RoundSoFar, is_met_by, OneMet, Changed}
 use Rattle.cleaning.proofs.Owned.{before-next, before-later, own_element}
 
 -- ---- tests on numbers

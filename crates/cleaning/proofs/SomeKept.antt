@@ -1,15 +1,15 @@
 -- What cleaning leaves of a program is the program with some of its sentences left out.
 use Prim.Native.Nat.{ℕ, zero, suc, ◌+◌, ◌≤◌, ◌<◌}
 use native.Mathlib.Omega.{arith}
-use mathlib.Core.Path.{◌≡◌, refl, sym, ap, ap₂, ◌∙◌, subst}
-use mathlib.Core.Bool.{Bool, true, false, ◌&&◌, not, cond, true≢false}
+use mathlib.Core.Path.{◌≡◌, refl, sym, ap, ◌∙◌}
+use mathlib.Core.Bool.{Bool, true, false, ◌&&◌, not, cond}
 use mathlib.Core.List.{List, [], map}
 use mathlib.Core.Option.{some, some-injective}
 use lib.Dec.{ltb}
-use lib.ListN.{length, get_elem?}
-use borrow.Author.Tests.{ltb-true, ltb-false, le-ltb, lt-ltb}
+use lib.ListN.{get_elem?}
+use borrow.Author.Tests.{ltb-true, ltb-false}
 use Rattle.program.specs.Syntax.{Function, Program}
-use Rattle.program.specs.Encode.{sentence_count, own_sentence_count}
+use Rattle.program.specs.Encode.{own_sentence_count}
 use Rattle.program.specs.Sentences.{Sentence, own_sentences}
 use Rattle.meaning.specs.Sites.{Site, program_sites}
 use Rattle.meaning.specs.Dispatch.{residual_dispatches_dynamically}
@@ -17,9 +17,8 @@ use Rattle.program.proofs.Own.{own-counted}
 use Rattle.told.specs.Numbered.{sentences_before, sites_of}
 use Rattle.index.proofs.First.{Element, element_at, element_same}
 use Rattle.meaning.specs.Root.{root_place}
-use Rattle.meaning.specs.Cleaning.{changes, round, changed, left_by, drops_nothing, Round, rounds_up_to, rounds_of, is_root, rounds, after, clean_residual_program}
+use Rattle.meaning.specs.Cleaning.{changes, round, changed, left_by, drops_nothing, rounds_up_to, rounds_of, is_root, rounds, after, clean_residual_program}
 use Rattle.told.specs.Kept.{kept_functions, kept_program}
-use Rattle.told.specs.KeptSites.{kept_sites}
 use Rattle.told.specs.History.{FunctionsLeft}
 use Rattle.cleaning.specs.RoundDone.{rejects_in, some_in}
 use Rattle.told.proofs.Kept.{all-kept}

@@ -17,8 +17,8 @@ use Rattle.rows.proofs.Readings.{part, part_length, part_part}
 use Rattle.meaning.specs.Text.{Text, format_symbol, format_terms}
 use Rattle.text.specs.FormatTerm.{kind_letter}
 use Rattle.compare.specs.Letters.{token_length, token_name, token_text, token_gap, letters, closes_after, TokenIn}
-use Rattle.compare.proofs.Letters.{length-code, length-name, length_begin, length-close, text-code, text-name, text-variable, text_begin, text-close, gap_begin, gap-close, gap_space, letters_are, name-size, name-room, token-long, by_mark}
-use Rattle.compare.proofs.Walk.{Walk, Closing, Walked, walk_long, walk_all}
+use Rattle.compare.proofs.Letters.{length-code, length-name, length_begin, length-close, text-code, text-name, text-variable, text_begin, text-close, gap_begin, gap-close, gap_space, letters_are, name-size, name-room, by_mark}
+use Rattle.compare.proofs.Walk.{Walk, Closing, walk_long, walk_all}
 
 pub not_false : (b : Bool) → not b ≡ false → b ≡ true
 not_false true e = refl

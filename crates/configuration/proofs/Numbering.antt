@@ -1,5 +1,5 @@
 -- Two numberings that have agreed so far agree on two names exactly if both are new or both are first seen at the same pair.
-use Prim.Native.Nat.{zero, suc, ◌+◌, ◌≤◌, ◌<◌}
+use Prim.Native.Nat.{zero, suc, ◌≤◌, ◌<◌}
 use native.Mathlib.Omega.{arith}
 use mathlib.Core.Path.{◌≡◌, refl, sym, ap, ◌∙◌}
 use mathlib.Core.Bool.{Bool, true, false, true≢false, cond}

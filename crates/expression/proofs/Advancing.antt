@@ -6,7 +6,6 @@ use mathlib.Core.List.{List, [], ◌++◌}
 use lib.ListN.{get_or, drop}
 use Rattle.program.specs.Limits.{Mode}
 use Rattle.image.specs.Parts.{TermsAt, tail}
-use Rattle.patterns.specs.Search.{View, view}
 use Rattle.rows.specs.Parts.{HeadAt}
 use Rattle.rows.proofs.Readings.{is-empty, is_not_empty, is-absorbing, one-head, head_at}
 use Rattle.overlap.proofs.Ways.{mark-at}

@@ -12,8 +12,8 @@ use Rattle.program.specs.Limits.{Mode}
 use Rattle.image.specs.Parts.{TermsAt}
 use Rattle.patterns.specs.Expression.{Expression, void, atom, group}
 use Rattle.patterns.specs.Marks.{zero_span, put_expression}
-use Rattle.patterns.specs.Search.{One, View, view, start}
-use Rattle.patterns.specs.Meet.{letter, free_one, of_first, meet_of_terms, meet_sequence}
+use Rattle.patterns.specs.Search.{One, View, start}
+use Rattle.patterns.specs.Meet.{letter, free_one, meet_of_terms, meet_sequence}
 use Rattle.patterns.proofs.Marks.{group-bytes}
 use Rattle.patterns.proofs.Plain.{PlainOne, PlainView, valid-plain, view-plain}
 use Rattle.rows.specs.Parts.{HeadAt}

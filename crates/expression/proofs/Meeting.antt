@@ -1,6 +1,6 @@
 -- The meeting of two patterns by what they begin with, and splits one end at a time.
-use Prim.Native.Nat.{ℕ, zero, suc}
-use mathlib.Core.Path.{◌≡◌, refl, sym, ap, ap₂, ◌∙◌, subst}
+use Prim.Native.Nat.{ℕ, suc}
+use mathlib.Core.Path.{◌≡◌, refl, sym, ap, ap₂, ◌∙◌}
 use mathlib.Core.Bool.{Bool, not, true, false, true≢false}
 use mathlib.Core.List.{List, [], ◌∷◌, ◌++◌}
 use Rattle.program.specs.Syntax.{s_kind, t_kind, e_kind, Terms, nil, symbol, variable, bracket, call, block}
@@ -8,7 +8,7 @@ use Rattle.image.specs.Parts.{tail}
 use Rattle.patterns.specs.declared.Verdict.{Verdict}
 use Rattle.patterns.specs.declared.Verdict.TheVariants.{Disjoint, Overlap, Unknown}
 use Rattle.patterns.specs.declared.Found.{Found}
-use Rattle.patterns.specs.Expression.{Expression, void, atom, group, ◌⧺◌}
+use Rattle.patterns.specs.Expression.{Expression, void, ◌⧺◌}
 use Rattle.patterns.specs.Marks.{put_expression}
 use Rattle.patterns.specs.Search.{One, View, view, ends, sequence}
 use Rattle.patterns.specs.Meet.{free, free_one, before, if_overlap, meet_splits, meet_of_terms, meet_entered, meet_enter, meet_sequence}

@@ -4,7 +4,7 @@ use Rattle.program.specs.Syntax.{Terms}
 use Rattle.program.specs.Limits.{Mode}
 use Rattle.image.specs.Parts.{TermsAt}
 use Rattle.patterns.specs.Marks.{put_expression}
-use Rattle.patterns.specs.Search.{One, View, view, ends}
+use Rattle.patterns.specs.Search.{One, ends}
 use Rattle.patterns.specs.Meet.{meet_splits, meet_of_terms, meet_sequence}
 use Rattle.rows.specs.Parts.{HeadAt}
 use Rattle.overlap.specs.Way.{End, Taken, Way, end_at, in_turn}

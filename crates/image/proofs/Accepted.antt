@@ -1,16 +1,16 @@
 -- What an accepted image holds at the places that its trailer gives.
-use Prim.Native.Nat.{ℕ, zero, suc, ◌+◌, ◌-◌, ◌≤◌, ◌<◌}
+use Prim.Native.Nat.{ℕ, ◌+◌, ◌-◌, ◌≤◌}
 use native.Mathlib.Omega.{arith}
 use mathlib.Core.Path.{◌≡◌, refl, sym, ap, subst, ◌∙◌}
 use mathlib.Core.List.{List, [], ◌∷◌, ◌++◌, append_assoc}
-use lib.ListN.{length, get_or, take, drop, length-append}
+use lib.ListN.{length, take, drop, length-append}
 use lib.Seq.{drop-append_seam}
-use Rattle.program.specs.Syntax.{Name, Span, Declaration, Function, Program}
+use Rattle.program.specs.Syntax.{Span, Declaration}
 use Rattle.program.specs.Bytes.{put32, put_span, put_name, get16, get32, Bytes}
 use Rattle.program.specs.Encode.{put_names, put_declarations, put_functions, put_body, own_sentence_count, encode}
-use Rattle.program.specs.Limits.{Valid, ValidFunctions}
-use Rattle.program.specs.Decode.{Answer, body_length, to_functions, function_field, sentence_field, decode}
-use Rattle.image.specs.Parts.{Accepted, FunctionsAt}
+use Rattle.program.specs.Limits.{Valid}
+use Rattle.program.specs.Decode.{body_length, to_functions, function_field, sentence_field}
+use Rattle.image.specs.Parts.{Accepted}
 use Rattle.program.proofs.Lengths.{body-length, encode-length}
 use Rattle.program.proofs.RoundTrip.{encode-decode, body_len, to_functions_lem, function_field_lem, sentence_field_lem, body_is}
 

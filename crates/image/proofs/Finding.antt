@@ -1,16 +1,16 @@
 -- The walk over functions to a sentence.
-use Prim.Native.Nat.{ℕ, zero, suc, ◌+◌, ◌-◌, ◌≤◌, ◌<◌}
+use Prim.Native.Nat.{ℕ, suc, ◌+◌, ◌-◌, ◌≤◌, ◌<◌}
 use native.Mathlib.Omega.{arith}
 use mathlib.Core.Path.{◌≡◌, refl, sym, ap, subst, ◌∙◌}
 use mathlib.Core.List.{List, [], ◌∷◌, ◌++◌}
-use lib.ListN.{length, get_or, take, drop, length-drop, length-append, drop_of_length-le}
+use lib.ListN.{length, get_or, drop, length-drop, length-append, drop_of_length-le}
 use lib.Seq.{get_or-drop, drop-drop, drop-append_seam, drop-nil}
 use Rattle.program.specs.Syntax.{Sentences, Function}
 use Rattle.program.specs.Bytes.{put32, put_span, put_name}
-use Rattle.program.specs.Encode.{put_head, put_terms, put_conditions, put_sentences, visibility_byte, put_function, put_functions}
+use Rattle.program.specs.Encode.{put_head, put_terms, put_conditions, put_sentences, put_function, put_functions}
 use Rattle.image.specs.Skip.{pass}
 use Rattle.program.specs.Sentences.{Sentence, sentence_list, own_sentences}
-use Rattle.image.specs.Parts.{put_sentence, FunctionsAt, Stands, FoundIn}
+use Rattle.image.specs.Parts.{put_sentence, FunctionsAt, Stands}
 use Rattle.image.proofs.Readings.{sentence_passed}
 use Rattle.program.proofs.Lengths.{head-length}
 

@@ -1,21 +1,21 @@
 -- What the bytes of a part say of the terms, sentence or function that stands there.
-use Prim.Native.Nat.{ℕ, zero, suc, ◌+◌, ◌-◌, ◌*◌, ◌≤◌, ◌<◌}
+use Prim.Native.Nat.{ℕ, suc, ◌+◌, ◌-◌, ◌≤◌, ◌<◌}
 use native.Mathlib.Omega.{arith}
 use native.Mathlib.Nat.{add-zero}
 use mathlib.Core.Path.{◌≡◌, refl, sym, ap, subst, ◌∙◌}
-use mathlib.Core.List.{List, [], ◌∷◌, ◌++◌}
+use mathlib.Core.List.{List, [], ◌∷◌}
 use lib.ListN.{length, get_or, take, drop, length-append, length-drop}
 use lib.Seq.{take-append_seam, drop-append_seam, drop-drop, get_or-drop}
-use Rattle.program.specs.Syntax.{Name, Span, Symbol, character, identifier, number, Kind, s_kind, t_kind, e_kind, Head, Terms, nil, symbol, variable, bracket, call, block, Conditions, none, condition, Sentences, empty, sentence, Function}
+use Rattle.program.specs.Syntax.{Name, Span, character, identifier, number, s_kind, t_kind, e_kind, Head, Terms, nil, symbol, variable, bracket, call, block, Conditions, none, condition, Sentences, empty, sentence}
 use Rattle.program.specs.Bytes.{put32, put_span, put_name}
-use Rattle.program.specs.Encode.{put_symbol, kind_mark, put_head, put_terms, put_conditions, put_sentences, visibility_byte, put_function, put_functions}
-use Rattle.program.specs.Limits.{Mode, NotPattern, ValidTerms, ValidConditions, ValidSentences}
+use Rattle.program.specs.Encode.{put_symbol, kind_mark, put_head, put_terms, put_conditions, put_sentences, put_function}
+use Rattle.program.specs.Limits.{Mode, ValidTerms, ValidConditions, ValidSentences}
 use Rattle.program.specs.Automaton.{Stack, Read, made, at_end, follow, turn, run}
 use Rattle.image.specs.Skip.{owed, fields, pass}
 use Rattle.image.specs.Parts.{Passes, NameAt, TermsAt, tail, put_sentence, SentenceAt, FunctionAt}
 use Rattle.program.specs.Sentences.{Sentence}
-use Rattle.program.proofs.Lengths.{span-length, code-length, name-length, symbol-length, head-length, terms-length, conditions-length, sentences-length}
-use Rattle.program.proofs.Complete.{Makes, run-terms}
+use Rattle.program.proofs.Lengths.{span-length, code-length, head-length, terms-length, conditions-length}
+use Rattle.program.proofs.Complete.{run-terms}
 use Rattle.image.proofs.Skip.{pass-terms, pass-conditions, pass-sentences, pass-nothing, pass-result}
 
 -- With fewer brackets around, and in a result instead of a pattern, terms are still within the limits.

@@ -1,6 +1,6 @@
 -- Parts of an image: "the rest of a pattern is the same image from a later byte". A record says what stands at the start of s, and what follows it.
-use Rattle.std.specs.Prelude.{ℕ, zero, suc, ◌≤◌, ◌≡◌, List, [], ◌∷◌, ◌++◌, length, drop}
-use Rattle.program.specs.Syntax.{Name, Head, Terms, nil, symbol, variable, bracket, call, block, Conditions, Sentences, empty, sentence, Function, Program}
+use Rattle.std.specs.Prelude.{ℕ, ◌≤◌, ◌≡◌, List, [], ◌∷◌, length, drop}
+use Rattle.program.specs.Syntax.{Name, Terms, nil, symbol, variable, bracket, call, block, Function, Program}
 use Rattle.program.specs.Sentences.{Sentence}
 use Rattle.program.specs.Bytes.{put_name}
 use Rattle.program.specs.Encode.{put_head, put_terms, put_conditions, put_function, put_functions}

@@ -1,5 +1,5 @@
 -- Passing over records without reading them: each mark says how many bytes belong to it and how many closes are owed after it.
-use Rattle.std.specs.Prelude.{ℕ, zero, suc, ◌+◌, Bool, true, false, ◌||◌, List, [], ◌∷◌, get_or, eqb}
+use Rattle.std.specs.Prelude.{ℕ, zero, suc, ◌+◌, List, [], ◌∷◌, get_or, eqb}
 use Rattle.program.specs.Limits.{pick}
 
 -- The closes owed after a mark where suc n were owed before it: a bracket and a call owe one more, a block two.

@@ -1,5 +1,5 @@
 -- Where the parts of work begin: columns, one after another, of functions (two), sentences (two), kept marks, sites (three); then room.
-use Rattle.std.specs.Prelude.{ℕ, ◌+◌, ◌*◌, ◌/◌, ◌%◌, List, get_or}
+use Rattle.std.specs.Prelude.{ℕ, ◌+◌, ◌*◌, ◌/◌}
 use Rattle.index.specs.declared.Plan.{Plan}
 
 abbrev pub heads : Plan → ℕ

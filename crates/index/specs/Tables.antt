@@ -1,9 +1,8 @@
 -- Functions, sentences and call sites as entries of work: "a record's name is handed back as the image's own bytes", so an entry only says where its record stands.
-use Rattle.std.specs.Prelude.{ℕ, zero, suc, ◌+◌, ◌/◌, ◌%◌, ◌<◌, ◌≡◌, List, [], ◌∷◌, length, get_or, drop}
+use Rattle.std.specs.Prelude.{ℕ, ◌+◌, ◌/◌, ◌%◌, ◌<◌, ◌≡◌, List, length, get_or, drop}
 use Rattle.std.proofs.Math.Option.{some}
 use Rattle.std.proofs.Math.ListN.{get_elem?}
 use Rattle.program.specs.Syntax.{Function}
-use Rattle.program.specs.Encode.{sentence_count}
 use Rattle.program.specs.Sentences.{Sentence}
 use Rattle.image.specs.Parts.{SentenceAt, FunctionAt}
 use Rattle.told.specs.Numbered.{Held, sentences_before}

@@ -13,7 +13,7 @@ use Rattle.meaning.specs.Spanless.{spanless, spanless_conditions}
 use Rattle.meaning.specs.Run as the-run
 use Rattle.meaning.specs.Run.{Event, entered, chosen, Ending, value, State, Part, sentences_of, Outcome}
 use Rattle.meaning.specs.Records.{bytes_of, event_bytes}
-use Rattle.meaning.specs.Watch.{Watch, Stop, ended, too_heavy, too_long, Load, Watched, and_then, note, weighing, heavier, bound_anew, bound, or_next, first_of, if_fits, answer_from, Callee, adds, adds_value, hands_on, tells, evaluate, hold, choose, entry_with, entry, body, enter_to, enter, enter_root, stop_of, events_of, WatchedOutcome, watched_outcome, watched_run}
+use Rattle.meaning.specs.Watch.{Watch, Stop, ended, too_heavy, too_long, Load, Watched, and_then, note, weighing, heavier, bound_anew, bound, or_next, first_of, if_fits, answer_from, Callee, adds, adds_value, hands_on, tells, evaluate, hold, choose, entry_with, entry, body, enter_to, enter, enter_root, stop_of, events_of, watched_outcome, watched_run}
 use Rattle.meaning.proofs.Unwatched.{forget}
 
 -- One list begins another.

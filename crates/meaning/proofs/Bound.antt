@@ -8,7 +8,7 @@ use native.Mathlib.Omega.{arith}
 use Rattle.program.specs.Syntax.{Program}
 use Rattle.program.specs.Encode.{own_sentence_count}
 use Rattle.meaning.specs.Dispatch.{residual_dispatches_dynamically}
-use Rattle.meaning.specs.Counted.{dropped_count, dropped_in_all, functions_with_any}
+use Rattle.meaning.specs.Counted.{dropped_in_all, functions_with_any}
 use Rattle.meaning.specs.Cleaning.{LeftAlone, Round, round, left_by, drops_nothing, rounds_up_to, rounds_of, is_root, rounds, after, clean_residual_program}
 use Rattle.meaning.proofs.Counts.{round-count, round_fewer, round-any, functions_count_any}
 

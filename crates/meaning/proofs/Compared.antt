@@ -10,10 +10,10 @@ use Rattle.program.specs.Sentences.{Sentence, sentence_list}
 use Rattle.patterns.proofs.Plain.{Plain, valid-plain}
 use Rattle.meaning.specs.Sites.{Site, program_sites}
 use Rattle.meaning.specs.Restrictions.{EnteringRestrictions, entering_restrictions}
-use Rattle.meaning.specs.Cleaning.{Standing, restricted, standing, Change, change, LeftAlone, changes, Round, is_root, rounds, clean_residual_program}
+use Rattle.meaning.specs.Cleaning.{restricted, standing, Change, change, LeftAlone, changes, Round, is_root, rounds, clean_residual_program}
 use Rattle.meaning.specs.CleanReport.{restrictions_of, final_standing}
 use Rattle.meaning.proofs.Plain.{restrictions-plain}
-use Rattle.meaning.proofs.Fewer.{cleaned_valid, RoundOf, round_of}
+use Rattle.meaning.proofs.Fewer.{cleaned_valid, round_of}
 
 -- A sentence's pattern and a restriction of its function are compared: in a round, or for the final lists.
 pub data Compares (w : Program) : Terms → Terms → Type 0 where

@@ -16,7 +16,7 @@ use Rattle.meaning.specs.Sites.{Site, site, collect_call_sites, condition_sites,
 use Rattle.meaning.specs.Match.{Bindings, value_of, matches}
 use Rattle.meaning.specs.Run.{Event}
 use Rattle.meaning.specs.Records.{bytes_of, event_bytes}
-use Rattle.meaning.specs.Watch.{Watch, Stop, too_heavy, too_long, Load, Watched, gives, stops, and_then, note, weighing, heavier, bound_anew, bound, or_next, first_of, if_fits, Callee, adds, adds_value, hands_on, tells, evaluate, hold, choose}
+use Rattle.meaning.specs.Watch.{Watch, too_heavy, too_long, Load, Watched, gives, stops, and_then, note, weighing, heavier, bound_anew, bound, or_next, first_of, if_fits, Callee, adds, adds_value, hands_on, tells, evaluate, hold, choose}
 use Rattle.meaning.proofs.Cleaned.{Hands}
 use Rattle.meaning.proofs.Every.{and_left, and_right, All, Opt, Every, every_left, every_right}
 use Rattle.meaning.proofs.Matches.{WellKinded, value-fits, matches_kinded}

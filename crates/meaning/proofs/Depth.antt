@@ -7,7 +7,7 @@ use native.Mathlib.Omega.{arith}
 use Rattle.program.specs.Syntax.{Name, Sentences, Program}
 use Rattle.patterns.specs.Expression.{Expression}
 use Rattle.meaning.specs.Run.{Event, entered, sentences_of}
-use Rattle.meaning.specs.Watch.{Watch, Load, Watched, gives, stops, and_then, note, weighing, heavier, Callee, adds, tells, entry_with, entry, answer_from, body, enter_to, enter}
+use Rattle.meaning.specs.Watch.{Watch, Load, Watched, note, weighing, Callee, adds, tells, entry_with, entry, answer_from, body, enter_to, enter}
 use Rattle.meaning.proofs.Congruence.{Any, Gives, Keeps, Holds, then_gives, then_same, adds-gives, tells-gives, choose-gives, choose-same}
 
 -- At most k calls are left.

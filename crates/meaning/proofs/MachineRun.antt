@@ -14,7 +14,7 @@ use Rattle.meaning.specs.Run.{Event, entered, chosen, sentences_of}
 use Rattle.meaning.specs.Records.{bytes_of}
 use Rattle.meaning.specs.Watch.{Watch, Stop, Load, Watched, gives, stops, and_then, before, weighing, heavier, bound_anew, bound, or_next, first_of, if_fits, Callee, adds, adds_value, hands_on, tells, evaluate, hold, choose, entry_with, entry, body, enter, enter_root, stop_of, watched_outcome, watched_run}
 use Rattle.meaning.specs.Watch as the-watch
-use Rattle.meaning.proofs.Machine.{Choice, choice, Attempt, attempt, Frame, Task, Machine, going, halted, once, build_variable, build_step, add_choice, hand_step, continue, call_body, fewer, entry_step, choose_step, retry_step, test_step, step, start_at, start, Reach, here, more, Halts}
+use Rattle.meaning.proofs.Machine.{Choice, choice, Attempt, attempt, Frame, Task, Machine, going, once, build_variable, build_step, add_choice, hand_step, continue, call_body, fewer, entry_step, choose_step, retry_step, test_step, step, start_at, start, Reach, here, more, Halts}
 use Rattle.meaning.proofs.Every.{All}
 use Rattle.meaning.proofs.Matches.{WellKinded, matches_kinded}
 use Rattle.meaning.proofs.Congruence.{Instance, Any, Gives, Keeps, Holds, adds-gives, value-gives, hands_gives, tells-gives, evaluate-gives, choose-gives}

@@ -5,7 +5,7 @@ use mathlib.Core.Logic.{◌⊎◌, inl, inr}
 use mathlib.Core.Bool.{Bool, true, false, cond}
 use mathlib.Core.List.{List, [], ◌∷◌, ◌++◌}
 use mathlib.Core.Option.{Option, none, some}
-use Rattle.program.specs.Syntax.{Name, Terms, nil, symbol, variable, bracket, call, block, Conditions, condition, Sentences, empty, sentence, Program}
+use Rattle.program.specs.Syntax.{Terms, nil, symbol, variable, bracket, call, block, Conditions, condition, Sentences, empty, sentence, Program}
 use Rattle.patterns.specs.Expression.{Expression, void, atom, group}
 use Rattle.meaning.specs.Match.{Bindings, value_of}
 use Rattle.meaning.specs.Run.{Event, entered, sentences_of}

@@ -1,12 +1,12 @@
 -- Demand 3 on programs: "the run of the cleaned show and the run of the original have the same events in the same order, each call with its name and argument and each sentence chosen, and the same ending, with the same value where there is one".
 -- It is proved of watched runs first: document 02, request 1, "a cleaned and an uncleaned show leave the same list", refusals 15 and 16 included.
 use Prim.Native.Nat.{ℕ}
-use mathlib.Core.Path.{◌≡◌, sym, ap, ap₂, ◌∙◌}
+use mathlib.Core.Path.{◌≡◌, sym, ap, ◌∙◌}
 use mathlib.Core.List.{List}
 use Rattle.program.specs.Syntax.{Program}
 use Rattle.patterns.specs.Expression.{Expression}
 use Rattle.meaning.specs.Cleaning.{clean_residual_program}
-use Rattle.meaning.specs.Run.{Event, Ending, Outcome, run}
+use Rattle.meaning.specs.Run.{Ending, Outcome, run}
 use Rattle.meaning.specs.Watch.{Watch, Stop, ended, too_heavy, too_long, WatchedOutcome, watched_run}
 use Rattle.meaning.proofs.Rounds.{cleaned_program}
 use Rattle.meaning.proofs.Cleaned.{Cleaned}

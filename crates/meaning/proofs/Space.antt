@@ -12,7 +12,7 @@ use Rattle.meaning.specs.Match.{Bindings, value_of, matches}
 use Rattle.meaning.specs.Spanless.{spanless, spanless_conditions}
 use Rattle.meaning.specs.Run.{Event, entered, chosen, Ending, value, no_root, no_answer_left, nothing_fitting, variable_unbound, call_limit, sentences_of}
 use Rattle.meaning.specs.Records.{put_events, bytes_of, event_bytes}
-use Rattle.meaning.specs.Watch.{Watch, Stop, ended, too_heavy, too_long, Load, Watched, gives, stops, and_then, note, weighing, heavier, bound_anew, bound, or_next, first_of, if_fits, answer_from, Callee, adds, adds_value, hands_on, tells, evaluate, hold, choose, entry_with, entry, body, enter_to, enter, enter_root, stop_of, events_of, WatchedOutcome, watched_outcome, watched_run}
+use Rattle.meaning.specs.Watch.{Watch, Stop, ended, too_heavy, too_long, Load, Watched, gives, stops, and_then, note, weighing, heavier, bound_anew, bound, or_next, first_of, if_fits, answer_from, Callee, adds, adds_value, hands_on, tells, evaluate, hold, choose, entry_with, entry, body, enter_to, enter, enter_root, stop_of, events_of, watched_outcome, watched_run}
 
 -- An ending other than the value.
 abbrev EarlyEnding : Ending → Type 0

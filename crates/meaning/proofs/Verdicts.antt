@@ -6,7 +6,7 @@ use mathlib.Core.List.{List, [], ◌∷◌, map}
 use Rattle.program.specs.Syntax.{Name, s_kind, t_kind, e_kind, Terms, nil, symbol, variable, bracket, call, block}
 use Rattle.patterns.specs.Names.{caseless}
 use Rattle.patterns.specs.declared.Verdict.{Verdict}
-use Rattle.patterns.specs.declared.Verdict.TheVariants.{Disjoint, Overlap, Unknown}
+use Rattle.patterns.specs.declared.Verdict.TheVariants.{Disjoint}
 use Rattle.patterns.specs.declared.Found.{Found}
 use Rattle.patterns.specs.Search.{found, Searching, One, View, view, leftover_overlap, ends, after_split, splits_from, absorbing_split, overlap_of_terms, start, after_heads, entered, enter, size, search_to, sequence, patterns_overlap}
 use Rattle.patterns.specs.Configuration.{seen_with, names_after, canonical_from, canonical_configuration, same_configuration}

@@ -8,7 +8,7 @@ use lib.ListN.{length}
 use Rattle.program.specs.Syntax.{character, nil, none, empty, local, Function, Program}
 use Rattle.patterns.specs.Expression.{Expression, void, atom}
 use Rattle.patterns.proofs.Vocabulary.{char, s_var, e_var, br, apply, within, when, rule, define}
-use Rattle.meaning.specs.Run.{value, no_root, nothing_fitting, variable_unbound, call_limit}
+use Rattle.meaning.specs.Run.{value, no_root, nothing_fitting, call_limit}
 use Rattle.meaning.specs.Watch.{Watch, Stop, ended, too_heavy, too_long, watched_run}
 use Rattle.meaning.proofs.WatchComputing.{computing}
 

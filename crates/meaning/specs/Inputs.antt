@@ -1,5 +1,5 @@
 -- An input and a list of answers, read from bytes: document 02, request 1. "Refusal 14 is an input or answer that is no sequence of characters, identifiers, numbers and brackets free of 5 to 8, nested to any depth".
-use Rattle.std.specs.Prelude.{ℕ, zero, suc, ◌+◌, Bool, true, false, ◌&&◌, cond, List, [], ◌∷◌, eqb, leb, ltb, length, get_or, take, drop}
+use Rattle.std.specs.Prelude.{ℕ, zero, suc, ◌+◌, Bool, true, false, ◌&&◌, cond, List, [], ◌∷◌, eqb, leb, length, get_or, take, drop}
 use Rattle.std.proofs.Math.Option.{Option, none, some}
 use Rattle.program.specs.Syntax.{Name, Symbol, character, identifier, number}
 use Rattle.program.specs.Bytes.{get32}

@@ -1,5 +1,5 @@
 -- The ones over the mark words are the sentences that are kept.
-use Prim.Native.Nat.{ℕ, zero, suc, ◌+◌, ◌-◌, ◌*◌, ◌/◌, ◌%◌, ◌^◌, ◌≤◌, ◌<◌}
+use Prim.Native.Nat.{ℕ, zero, suc, ◌+◌, ◌*◌, ◌/◌, ◌%◌, ◌^◌, ◌≤◌, ◌<◌}
 use native.Mathlib.Omega.{arith}
 use native.Mathlib.Nat.{mod-lt, pow-suc, div-one, div-div-eq-div-mul}
 use mathlib.Core.Path.{◌≡◌, refl, sym, ap, ◌∙◌}

@@ -1,6 +1,5 @@
 -- The same of a sentence.
-use Prim.Native.Nat.{ℕ}
-use mathlib.Core.List.{List, ◌∷◌}
+use mathlib.Core.List.{◌∷◌}
 use Rattle.program.specs.Sentences.{Sentence}
 use Rattle.program.specs.Encode.{put_head, put_terms, put_conditions}
 use Rattle.program.proofs.Splits.{Splits, splits-after, splits_cons, head-splits, terms-splits, conditions-splits}

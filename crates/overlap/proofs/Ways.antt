@@ -1,5 +1,5 @@
 -- Laws of ways and of the open splits that lead to them.
-use Prim.Native.Nat.{ℕ, zero, suc, ◌+◌, ◌-◌, ◌*◌, ◌<◌, ◌≤◌}
+use Prim.Native.Nat.{ℕ, suc, ◌+◌, ◌-◌, ◌*◌, ◌<◌, ◌≤◌}
 use native.Mathlib.Omega.{arith}
 use mathlib.Core.Path.{◌≡◌, refl, sym, ap, ap₂, ◌∙◌, subst}
 use mathlib.Core.Bool.{true, false, true≢false}
@@ -22,12 +22,11 @@ use Rattle.symbols.proofs.Parts.{part_rest}
 use Rattle.rows.specs.Parts.{HeadAt}
 use Rattle.rows.specs.Rows.{Kept}
 use Rattle.rows.proofs.Places.{kept_same}
-use Rattle.rows.proofs.Readings.{part, inside, at_part, mark_in, is-empty, is_not_empty, is-absorbing, one-head, head_at, place_after, after_term, next_fits}
+use Rattle.rows.proofs.Readings.{part, inside, at_part, mark_in, is-empty, is_not_empty, is-absorbing, one-head, place_after, after_term, next_fits}
 use Rattle.rows.proofs.Heads.{BracketAt, head-room}
-use Rattle.overlap.specs.declared.way.Lead.{Lead}
 use Rattle.overlap.specs.declared.way.Turn.{Turn}
 use Rattle.overlap.specs.Steps.{is_overlap}
-use Rattle.overlap.specs.Way.{End, Next, Fails, fails-none, fails_more, Taken, Way, way-any, way-heads, way-first, way-second, end_at, in_turn, Leads, Trail, trail-start, trail_open, Apart, Met, Failing, lead_of, Told, Turned, Goes, stop_at, go_on, split_at, Opened}
+use Rattle.overlap.specs.Way.{End, Next, Fails, fails-none, fails_more, Way, way-any, way-heads, way-first, way-second, end_at, in_turn, Leads, Trail, trail-start, trail_open, Apart, Met, Failing, lead_of, Told, Turned, Goes, stop_at, go_on, split_at, Opened}
 use Rattle.overlap.proofs.Turns.{ends-first, ends_last, ends_more}
 
 -- ---- readings

@@ -3,11 +3,11 @@ use Prim.Native.Nat.{ℕ, zero, suc, ◌+◌, ◌*◌, ◌<◌, ◌≤◌}
 use native.Mathlib.Omega.{arith}
 use mathlib.Core.Path.{◌≡◌, refl, ap, ◌∙◌}
 use mathlib.Core.Bool.{Bool, true, false, not}
-use mathlib.Core.List.{List, [], ◌∷◌, ◌++◌}
+use mathlib.Core.List.{List, [], ◌∷◌}
 use lib.ListN.{length, length-append}
 use Rattle.program.specs.Syntax.{Span, Symbol, character, identifier, number, s_kind, t_kind, e_kind, Terms, nil, symbol, variable, bracket, call, block}
 use Rattle.program.specs.Bytes.{put32, put_span, put_name}
-use Rattle.program.specs.Encode.{put_symbol, kind_mark, put_terms, put_sentences}
+use Rattle.program.specs.Encode.{put_symbol, put_terms, put_sentences}
 use Rattle.program.specs.Limits.{Mode, ValidSymbol, ValidTerms}
 use Rattle.program.proofs.Complete.{scalar_fits}
 use Rattle.program.proofs.Lengths.{span-length, code-length, name-length, terms-length, sentences-length}
@@ -17,7 +17,7 @@ use Rattle.patterns.specs.declared.Verdict.TheVariants.{Disjoint, Overlap, Unkno
 use Rattle.patterns.specs.Expression.{Expression, void, atom, group, ◌⧺◌}
 use Rattle.patterns.specs.Marks.{zero_span, put_expression}
 use Rattle.patterns.specs.Search.{One, View, view, ends, start, size, sequence}
-use Rattle.patterns.specs.Meet.{letter, free, free_one, before, if_overlap, meet_splits, of_first, meet_of_terms, meet_entered, meet_enter, meet_sequence, meet}
+use Rattle.patterns.specs.Meet.{letter, free, free_one, before, if_overlap, meet_splits, of_first, meet_of_terms, meet_entered, meet_enter, meet_sequence}
 use Rattle.patterns.proofs.Size.{one_size, Below, view-below, by_size}
 use Rattle.patterns.proofs.Marks.{bytes_of, CodeFits, Coded, joined_length, group-bytes}
 use Rattle.patterns.proofs.Meet.{unfold_meet}

@@ -10,7 +10,7 @@ use Rattle.patterns.specs.Names.{lower, caseless, eq_bytes}
 use Rattle.patterns.specs.Symbols.{significant, key, eq_symbol, same_symbol}
 use Rattle.patterns.specs.declared.Found.{Found}
 use Rattle.patterns.specs.Search.{view, leftover_overlap, ends, splits_from, absorbing_split, literal_overlap, start, overlap_of_terms, entered, enter, size, search_to, sequence, patterns_overlap, spent}
-use Rattle.patterns.specs.Table.{nowhere, char, ident, digits, var, empty-bracket, three_then_b, before_a, letters_a, Case, table, longer, nested, Holds}
+use Rattle.patterns.specs.Table.{nowhere, char, ident, digits, var, empty-bracket, three_then_b, before_a, Case, table, longer, nested, Holds}
 use Rattle.patterns.proofs.Verdicts.{eq_verdict, eq_verdict_true}
 
 abbrev right : Found → Case → Bool

@@ -1,5 +1,5 @@
 -- The overlap verdict: "Heads, splits and leftovers follow `OverlapSearch`." Fuel goes in and comes back.
-use Rattle.std.specs.Prelude.{ℕ, zero, suc, ◌+◌, ◌-◌, Bool, true, false, cond, List, [], ◌∷◌}
+use Rattle.std.specs.Prelude.{ℕ, zero, suc, ◌+◌, ◌-◌, Bool, true, false, List, [], ◌∷◌}
 use Rattle.program.specs.Syntax.{Symbol, s_kind, t_kind, e_kind, Terms, nil, symbol, variable, bracket, call, block}
 use Rattle.patterns.specs.Symbols.{same_symbol}
 use Rattle.patterns.specs.declared.Verdict.{Verdict}

@@ -1,6 +1,6 @@
 -- When two symbols are equal: "Characters are equal by code, identifiers by ASCII without regard to case, [..]; symbols of two sorts are never equal."
 -- Document 02, 3, on numbers: "two numbers are equal if they are the same whole number, of any length up to 63 digits".
-use Rattle.std.specs.Prelude.{ℕ, Bool, true, false, cond, [], ◌∷◌, eqb}
+use Rattle.std.specs.Prelude.{Bool, false, cond, [], ◌∷◌, eqb}
 use Rattle.program.specs.Syntax.{Name, Symbol, character, identifier, number}
 use Rattle.patterns.specs.Names.{caseless, eq_bytes}
 

@@ -1,18 +1,18 @@
 -- What is written within the limits is read back.
-use Prim.Native.Nat.{ℕ, zero, suc, ◌+◌, ◌%◌, ◌≤◌, ◌<◌}
+use Prim.Native.Nat.{ℕ, suc, ◌%◌, ◌<◌}
 use native.Mathlib.Omega.{arith}
-use mathlib.Core.Path.{◌≡◌, refl, sym, ap, ◌∙◌}
+use mathlib.Core.Path.{◌≡◌, refl, ap, ◌∙◌}
 use mathlib.Core.Bool.{Bool, true, false}
 use mathlib.Core.List.{List, [], ◌∷◌, ◌++◌}
 use lib.ListN.{length, take, drop}
 use lib.Seq.{take-append_seam}
-use lib.Dec.{ltb, leb, eqb}
+use lib.Dec.{ltb, leb}
 use borrow.Author.Tests.{lt-ltb, le-ltb, le-leb, ltb-true, leb-true}
-use Rattle.program.specs.Syntax.{Name, Span, Symbol, character, identifier, number, Kind, s_kind, t_kind, e_kind, Head, Terms, nil, symbol, variable, bracket, call, block, Conditions, none, condition, Sentences, empty, sentence, Visibility, local, entry, Declaration, Function, Program}
+use Rattle.program.specs.Syntax.{Span, Symbol, character, identifier, number, Kind, s_kind, t_kind, e_kind, Head, Terms, nil, symbol, variable, bracket, call, block, Conditions, none, condition, Sentences, empty, sentence, Visibility, local, entry, Declaration, Function, Program}
 use Rattle.program.specs.Bytes.{put32, put_span, put_name, get32, get_span}
 use Rattle.program.specs.Encode.{put_symbol, kind_mark, put_head, put_terms, put_conditions, put_sentences, put_names, put_declarations, visibility_byte, put_function, put_functions, put_body}
-use Rattle.program.specs.Limits.{pick, Mode, allowed, scalar, ValidSpan, AllAllowed, ValidName, ValidSymbol, NotPattern, ValidTerms, ValidConditions, ValidSentences, ValidNames, ValidDeclarations, ValidFunctions, ValidBody}
-use Rattle.program.specs.Automaton.{Stack, Values, Turn, wrong, spanned, nested, outside, Scan, scan, scanned, named, Word, word_term, is_number, term_mark, turn_terms, condition_mark, turn_conditions, sentence_mark, turn_sentences, item_mark, turn_function, turn_functions, turn_body, turn_names, turn_counted, turn_visibility, turn_code, turn, Read, made, at_end, follow, run}
+use Rattle.program.specs.Limits.{pick, Mode, scalar, ValidSpan, AllAllowed, ValidName, ValidSymbol, NotPattern, ValidTerms, ValidConditions, ValidSentences, ValidNames, ValidDeclarations, ValidFunctions, ValidBody}
+use Rattle.program.specs.Automaton.{Stack, Values, Turn, spanned, nested, outside, Scan, scan, scanned, named, Word, word_term, is_number, term_mark, turn_terms, condition_mark, turn_conditions, sentence_mark, turn_sentences, item_mark, turn_function, turn_functions, turn_body, turn_names, turn_counted, turn_visibility, turn_code, turn, Read, made, at_end, follow, run}
 use Rattle.program.proofs.Numbers.{get32-put32, get_span_put}
 use Rattle.program.proofs.Sound.{word_mark}
 

@@ -3,10 +3,10 @@ use Prim.Native.Nat.{ℕ, zero, suc}
 use mathlib.Core.Path.{◌≡◌, refl}
 use mathlib.Core.List.{List, [], ◌∷◌, ◌++◌, map}
 use lib.ListN.{length, replicate}
-use Rattle.program.specs.Syntax.{Name, Span, Symbol, character, Kind, e_kind, Terms, nil, symbol, variable, bracket, call, Conditions, none, Sentences, empty, sentence, Visibility, local, entry, Function, Program}
+use Rattle.program.specs.Syntax.{Span, character, e_kind, nil, symbol, variable, bracket, call, none, empty, sentence, local, entry, Function, Program}
 use Rattle.program.specs.Bytes.{put16, put32, put_span, put_name, get16, get32, get_span}
 use Rattle.program.specs.Encode.{put_symbol, kind_mark, put_head, put_terms, put_conditions, put_sentences, put_names, put_declarations, visibility_byte, put_function, put_functions, put_body, sentence_count, own_sentence_count, trailer, encode}
-use Rattle.program.specs.Limits.{pick, allowed, scalar}
+use Rattle.program.specs.Limits.{allowed, scalar}
 use Rattle.program.specs.Automaton.{wrong, spanned, nested, outside, scan, scanned, named, word_term, is_number, term_mark, turn_terms, condition_mark, turn_conditions, sentence_mark, turn_sentences, item_mark, turn_function, turn_functions, turn_body, turn_names, turn_counted, turn_visibility, turn_code, turn, made, at_end, follow, run}
 use Rattle.program.specs.Decode.{Answer, sized, pointed, agrees, settled, decode_sized, decode}
 

@@ -1,12 +1,12 @@
 -- How long what is written is, at least.
-use Prim.Native.Nat.{ℕ, zero, suc, ◌+◌, ◌≤◌, ◌<◌}
+use Prim.Native.Nat.{ℕ, suc, ◌+◌, ◌≤◌, ◌<◌}
 use native.Mathlib.Omega.{arith}
-use mathlib.Core.Path.{◌≡◌, refl, sym, ap, ◌∙◌}
-use mathlib.Core.List.{List, [], ◌∷◌, ◌++◌}
+use mathlib.Core.Path.{◌≡◌, refl, ap, ◌∙◌}
+use mathlib.Core.List.{List, [], ◌∷◌}
 use lib.ListN.{length, length-append}
-use Rattle.program.specs.Syntax.{Name, Span, Symbol, character, identifier, number, Kind, Head, Terms, nil, symbol, variable, bracket, call, block, Conditions, none, condition, Sentences, empty, sentence, Declaration, Function, Program}
+use Rattle.program.specs.Syntax.{Name, Span, Symbol, character, identifier, number, Head, Terms, nil, symbol, variable, bracket, call, block, Conditions, none, condition, Sentences, empty, sentence, Declaration, Function, Program}
 use Rattle.program.specs.Bytes.{put16, put32, put_span, put_name}
-use Rattle.program.specs.Encode.{put_symbol, kind_mark, put_head, put_terms, put_conditions, put_sentences, put_names, put_declarations, visibility_byte, put_function, put_functions, put_body, sentence_count, own_sentence_count, trailer, encode}
+use Rattle.program.specs.Encode.{put_symbol, put_head, put_terms, put_conditions, put_sentences, put_names, put_declarations, visibility_byte, put_function, put_functions, put_body, sentence_count, own_sentence_count, trailer, encode}
 
 pub span-length : (p : Span) (k : List ℕ) → length (put_span p k) ≡ 8 + length k
 unfolding put_span put32

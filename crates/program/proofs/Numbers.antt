@@ -1,16 +1,13 @@
 -- Numbers, spans and names: written and read back.
 use Prim.Native.Nat.{ℕ, zero, suc, ◌+◌, ◌*◌, ◌/◌, ◌%◌, ◌≤◌, ◌<◌}
 use native.Mathlib.Omega.{arith}
-use mathlib.Core.Path.{◌≡◌, refl, sym, ap, ap₂, ◌∙◌}
-use mathlib.Core.Bool.{Bool, true, false}
+use mathlib.Core.Path.{◌≡◌, sym, ap, ◌∙◌}
 use mathlib.Core.List.{List, [], ◌∷◌, ◌++◌}
 use native.Mathlib.Nat.{add_assoc}
 use lib.ListN.{length, get_or, take, drop}
 use lib.Seq.{get_or-drop}
-use lib.Dec.{ltb, leb, eqb}
-use borrow.Author.Tests.{lt-ltb, le-ltb, le-leb, lt-leb, ltb-true, ltb-false, leb-true, leb-false}
 use Rattle.program.specs.Syntax.{Span}
-use Rattle.program.specs.Bytes.{Bytes, put16, put32, put_span, put_name, get16, get32, get_span}
+use Rattle.program.specs.Bytes.{Bytes, put16, put32, put_span, get16, get32, get_span}
 use Rattle.program.specs.Limits.{ValidSpan}
 
 -- A byte and what stands above it.

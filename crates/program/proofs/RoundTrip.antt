@@ -1,13 +1,13 @@
 -- An image is accepted as a program exactly if it is the program's encoding and the program is within the limits.
-use Prim.Native.Nat.{ℕ, zero, suc, ◌+◌, ◌-◌, ◌≤◌, ◌<◌}
+use Prim.Native.Nat.{ℕ, zero, suc, ◌+◌, ◌≤◌, ◌<◌}
 use native.Mathlib.Omega.{arith}
 use mathlib.Core.Path.{◌≡◌, refl, sym, ap, subst, ◌∙◌}
 use mathlib.Core.Bool.{Bool, true, false}
 use mathlib.Core.Logic.{◌↔◌}
 use mathlib.Core.List.{List, [], ◌∷◌, ◌++◌}
 use native.Mathlib.Nat.{add_assoc, add-zero}
-use lib.ListN.{length, get_or, take, drop, length-append, length-take, length-drop, take-append-drop}
-use lib.Seq.{get_or-append-add, get_or-drop, take-append_seam, length-take-le}
+use lib.ListN.{length, take, drop, length-drop, take-append-drop}
+use lib.Seq.{get_or-append-add, take-append_seam, length-take-le}
 use lib.Dec.{leb, eqb}
 use borrow.Author.Tests.{le-leb, eq-eqb, leb-true, eqb-true}
 use Rattle.program.specs.Syntax.{Program}
@@ -17,9 +17,9 @@ use Rattle.program.specs.Limits.{pick, ValidBody, Valid}
 use Rattle.program.specs.Automaton.{Stack, Read, run}
 use Rattle.program.specs.Decode.{Answer, body_length, to_body, to_functions, function_field, sentence_field, sized, pointed, agrees, settled, decode_sized, decode}
 use Rattle.program.proofs.Numbers.{get32-put32, get16-put16, put32_four, put16-two, get32-drop, get16-drop}
-use Rattle.program.proofs.Lengths.{functions-length, body-length, encode-length, trailer-length}
+use Rattle.program.proofs.Lengths.{functions-length, body-length, encode-length}
 use Rattle.program.proofs.Complete.{run-body}
-use Rattle.program.proofs.Sound.{sound, apart}
+use Rattle.program.proofs.Sound.{sound}
 
 -- A number that stands past the first list.
 get32-past : (a t : List ℕ) (i : ℕ) → get32 (a ++ t) (length a + i) ≡ get32 t i

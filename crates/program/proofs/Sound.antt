@@ -1,17 +1,17 @@
 -- What is read, written again, is the bytes that were read, and it is within the limits.
-use Prim.Native.Nat.{ℕ, zero, suc, ◌+◌, ◌≤◌, ◌<◌}
+use Prim.Native.Nat.{ℕ, zero, suc, ◌≤◌, ◌<◌}
 use native.Mathlib.Omega.{arith}
 use mathlib.Core.Path.{◌≡◌, refl, sym, ap, subst, ◌∙◌}
 use mathlib.Core.Bool.{Bool, true, false}
 use mathlib.Core.List.{List, [], ◌∷◌, ◌++◌}
-use lib.ListN.{length, get_or, take, drop}
+use lib.ListN.{length, take}
 use lib.Seq.{length-take-le}
-use lib.Dec.{ltb, leb, eqb}
-use borrow.Author.Tests.{ltb-true, ltb-false, leb-true, leb-false}
-use Rattle.program.specs.Syntax.{Span, Kind, Terms, Conditions, Sentences, Visibility, Declaration, Function, Program}
+use lib.Dec.{ltb, leb}
+use borrow.Author.Tests.{ltb-true, ltb-false, leb-true}
+use Rattle.program.specs.Syntax.{Span, Terms, Function, Program}
 use Rattle.program.specs.Bytes.{put32, put_span, put_name, get32, get_span, Bytes}
 use Rattle.program.specs.Encode.{put_symbol, kind_mark, put_head, put_terms, put_conditions, put_sentences, put_names, put_declarations, visibility_byte, put_function, put_functions, put_body}
-use Rattle.program.specs.Limits.{pick, Mode, allowed, scalar, ValidSpan, AllAllowed, ValidName, NotPattern, ValidTerms, ValidConditions, ValidSentences, ValidNames, ValidDeclarations, ValidFunctions, ValidBody}
+use Rattle.program.specs.Limits.{pick, Mode, allowed, scalar, ValidSpan, AllAllowed, ValidName, NotPattern, ValidTerms, ValidConditions, ValidSentences, ValidNames, ValidFunctions, ValidBody}
 use Rattle.program.specs.Automaton.{Stack, Values, Turn, wrong, spanned, nested, outside, Scan, scan, scanned, named, Word, word_term, is_number, TermMark, term_mark, turn_terms, ConditionMark, condition_mark, turn_conditions, SentenceMark, sentence_mark, turn_sentences, ItemMark, item_mark, turn_function, turn_functions, turn_body, turn_names, turn_counted, turn_visibility, turn_code, turn, Read, made, at_end, follow, run}
 use Rattle.program.proofs.Tests.{by_test}
 use Rattle.program.proofs.Numbers.{put32_back, span_back, get32-fits}

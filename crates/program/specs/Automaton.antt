@@ -1,6 +1,6 @@
 -- Reading bytes from left to right with a stack of what is still to come, so that the first refusal met is the one at the earliest place.
 -- One turn takes a mark with its span, a name, a code or a single byte. A refusal is its number and how many bytes are left from its place on.
-use Rattle.std.specs.Prelude.{ℕ, zero, suc, ◌+◌, Bool, true, false, List, [], ◌∷◌, length, get_or, take, ltb, leb, eqb}
+use Rattle.std.specs.Prelude.{ℕ, zero, suc, Bool, true, false, List, [], ◌∷◌, length, take, ltb, leb, eqb}
 use Rattle.program.specs.Syntax.{Name, Span, Symbol, Kind, Terms, Conditions, Sentences, Visibility, Function, Program}
 use Rattle.program.specs.Bytes.{get32, get_span}
 use Rattle.program.specs.Limits.{pick, Mode, allowed, scalar}

@@ -1,6 +1,6 @@
 -- What an image is: a program, or the refusal with its number and place.
 -- "Order: 1, 2, 3, 4; then 5 to 10 at the earliest place, lower number first at one place; then 11": refusals 2 and 3 come from other arguments, so 1 stands apart.
-use Rattle.std.specs.Prelude.{ℕ, ◌+◌, ◌-◌, Bool, true, false, List, [], ◌∷◌, length, take, leb, eqb}
+use Rattle.std.specs.Prelude.{ℕ, ◌+◌, ◌-◌, Bool, false, List, length, take, leb, eqb}
 use Rattle.program.specs.Syntax.{Program}
 use Rattle.program.specs.Bytes.{get16, get32}
 use Rattle.program.specs.Encode.{put_functions, own_sentence_count}

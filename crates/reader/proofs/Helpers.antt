@@ -1,15 +1,14 @@
 -- The reader's small helpers: their cases.
-use Prim.Native.Nat.{ℕ, zero, suc, ◌+◌, ◌*◌, ◌-◌, ◌/◌, ◌%◌, ◌≤◌, ◌<◌}
+use Prim.Native.Nat.{ℕ, zero, suc, ◌+◌, ◌*◌, ◌-◌, ◌/◌, ◌%◌, ◌<◌}
 use native.Mathlib.Omega.{arith}
 use native.Mathlib.Nat.{add-zero}
-use mathlib.Core.Path.{◌≡◌, refl, sym, ap, subst, ◌∙◌}
-use mathlib.Core.List.{List, [], ◌∷◌}
-use lib.ListN.{length, get_or}
-use lib.Dec.{eqb}
+use mathlib.Core.Path.{◌≡◌, refl, sym, subst, ◌∙◌}
+use mathlib.Core.List.{List}
+use lib.ListN.{get_or}
 use borrow.Author.Tests.{eq-eqb, ne_eqb}
-use Rattle.program.specs.Limits.{pick, Mode}
+use Rattle.program.specs.Limits.{Mode}
 use Rattle.program.specs.Automaton.{Stack}
-use Rattle.reader.specs.Steps.{refusal, frame, DoesAt, Does, bottom, bottom_after, TermsKind, kind_on, frame_on}
+use Rattle.reader.specs.Steps.{refusal, frame, DoesAt, Does, bottom, bottom_after, TermsKind, kind_on}
 use Rattle.reader.specs.Tally.{counts, unpacked, top_of, TurnDoes, function_one, sentence_one, bottom_next, first_next, advanced_by, tally_end}
 use Rattle.reader.specs.declared.turns.Frame.{Frame}
 use Rattle.reader.specs.declared.turns.Step.{Step}

@@ -1,20 +1,19 @@
 -- The loop over a body: what holds at its head, and that a turn keeps it.
-use Prim.Native.Nat.{ℕ, zero, suc, ◌+◌, ◌*◌, ◌-◌, ◌/◌, ◌%◌, ◌≤◌, ◌<◌}
+use Prim.Native.Nat.{ℕ, zero, suc, ◌+◌, ◌-◌, ◌/◌, ◌%◌, ◌≤◌, ◌<◌}
 use native.Mathlib.Omega.{arith}
-use native.Mathlib.Numerals.{add-one, add-two, add-three, add-four}
+use native.Mathlib.Numerals.{add-one}
 use native.Mathlib.Nat.{add-zero, sub-zero}
 use mathlib.Core.Path.{◌≡◌, refl, sym, ap, subst, ◌∙◌}
 use mathlib.Core.Bool.{Bool, true, false}
-use mathlib.Core.List.{List, [], ◌∷◌}
-use lib.ListN.{length, get_or, set, take, drop, length-set, drop_of_length-le}
+use mathlib.Core.List.{List}
+use lib.ListN.{length, get_or, set, drop, length-set, drop_of_length-le}
 use lib.Seq.{drop-cons, get_or-set_same, get_or-set_other}
 use lib.Dec.{leb, eqb}
 use borrow.Author.Tests.{eq-eqb, ne_eqb, eqb-true, eqb-false, leb-true, leb-false}
-use Rattle.program.specs.Syntax.{Program}
 use Rattle.program.specs.Encode.{put_functions, own_sentence_count}
 use Rattle.program.specs.Limits.{pick, Mode}
-use Rattle.program.specs.Automaton.{Stack, Values, Turn, turn, Read, made, at_end, follow, run}
-use Rattle.reader.specs.Steps.{refusal, frame, kind_on, frame_on, frames, pushed, Refuses, Goes, DoesAt, Does, bottom, bottom_after}
+use Rattle.program.specs.Automaton.{Stack, Values, Turn, at_end, follow, run}
+use Rattle.reader.specs.Steps.{refusal, kind_on, frame_on, frames, pushed, DoesAt, bottom}
 use Rattle.reader.specs.Tally.{counts, tally_of, unpacked, stack_of, top_of, Stored, TurnDoes, function_one, sentence_one, bottom_next, first_next, advanced_by, tally_end, tally_in, Stops}
 use Rattle.program.specs.declared.Refusal.{Refusal}
 use Rattle.reader.specs.declared.turns.Frame.{Frame}

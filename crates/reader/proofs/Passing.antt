@@ -1,17 +1,16 @@
 -- Flat terms and closes: reading comes to the same tally from past them on.
 use Prim.Native.Nat.{ℕ, zero, suc, ◌+◌, ◌-◌, ◌/◌, ◌%◌, ◌≤◌, ◌<◌}
 use native.Mathlib.Omega.{arith}
-use mathlib.Core.Path.{◌≡◌, refl, sym, ap, subst, ◌∙◌}
+use mathlib.Core.Path.{◌≡◌, refl, sym, subst, ◌∙◌}
 use mathlib.Core.Bool.{Bool, true, false}
 use mathlib.Core.Logic.{◌⊎◌, inl, inr}
 use mathlib.Core.List.{List, [], ◌∷◌}
 use lib.ListN.{length, get_or, take, drop}
 use lib.Seq.{drop-cons}
 use lib.Dec.{ltb, leb}
-use Rattle.program.specs.Bytes.{get32}
-use Rattle.program.specs.Limits.{pick, Mode, scalar}
+use Rattle.program.specs.Limits.{pick, Mode}
 use Rattle.program.specs.Automaton.{Stack, Values, Scan, scan, scanned, Turn, wrong, named, turn_names, turn, Read, made, follow, run}
-use Rattle.reader.specs.Steps.{name_refusal, code_refusal, refusal_of, span_refusal, frame, push, kind_on, frame_on, pushed, Goes, terms_kind, TermsKind}
+use Rattle.reader.specs.Steps.{name_refusal, code_refusal, span_refusal, frame, push, kind_on, pushed, Goes, terms_kind, TermsKind}
 use Rattle.reader.specs.Tally.{unpacked, stack_of, tally_in, Alike, Ends, Stops}
 use Rattle.program.specs.declared.Refusal.{Refusal}
 use Rattle.reader.specs.declared.turns.Push.{Push}

@@ -2,22 +2,18 @@
 use Prim.Native.Nat.{ℕ, zero, suc, ◌+◌, ◌-◌, ◌≤◌, ◌<◌}
 use native.Mathlib.Omega.{arith}
 use native.Mathlib.Numerals.{add-one}
-use native.Mathlib.Nat.{add-zero}
 use mathlib.Core.Path.{◌≡◌, refl, sym, ap, subst, ◌∙◌}
 use mathlib.Core.Bool.{Bool, true, false}
 use mathlib.Core.List.{List, [], ◌∷◌}
-use lib.ListN.{length, get_or, take, drop, length-drop}
-use lib.Seq.{drop-cons}
-use lib.Dec.{ltb, leb, eqb}
-use borrow.Author.Tests.{lt-ltb, le-ltb, le-leb, lt-leb, ltb-true, ltb-false, leb-true, ne_eqb}
-use Rattle.program.specs.Syntax.{Span, Terms, Conditions, Sentences, Function, Program}
+use lib.ListN.{length, get_or, drop, length-drop}
+use lib.Dec.{ltb, leb}
+use borrow.Author.Tests.{lt-ltb, le-ltb, le-leb, ltb-true, ltb-false, leb-true, ne_eqb}
+use Rattle.program.specs.Syntax.{Span}
 use Rattle.program.specs.Bytes.{get32, get_span}
-use Rattle.program.specs.Limits.{pick, Mode, allowed, scalar}
-use Rattle.program.specs.Automaton.{Stack, Values, TermMark, ConditionMark, SentenceMark, ItemMark, term_mark, condition_mark, sentence_mark, item_mark, Turn, spanned, wrong, nested, outside, is_number, Scan, scan, scanned, named, turn_terms, turn_conditions, turn_sentences, turn_function, turn_functions, turn_body, turn_names, turn_counted, turn}
-use Rattle.reader.specs.Steps.{refusal, refusal_of, span_refusal, step_of, span_step, name_refusal, name_step, frame, push, kind_on, frame_on, frames, pushed, Refuses, Goes, DoesAt, Does}
-use Rattle.program.specs.declared.Refusal.{Refusal}
+use Rattle.program.specs.Limits.{pick, allowed}
+use Rattle.program.specs.Automaton.{Stack, Values, Turn, spanned, wrong, Scan, scan, scanned, named, turn}
+use Rattle.reader.specs.Steps.{refusal, refusal_of, span_refusal, step_of, span_step, name_refusal, name_step, push, frame_on, frames, Refuses, Goes, DoesAt, Does}
 use Rattle.reader.specs.declared.turns.Frame.{Frame}
-use Rattle.reader.specs.declared.turns.Push.{Push}
 use Rattle.reader.specs.declared.turns.Step.{Step}
 use Rattle.program.proofs.Numbers.{get32-drop}
 use Rattle.program.proofs.Sound.{scan_good}

@@ -11,11 +11,11 @@ use lib.ListN.{length, get_or, take, drop, length-drop}
 use lib.Seq.{drop-cons}
 use lib.Dec.{ltb, leb, eqb}
 use borrow.Author.Tests.{lt-ltb, le-ltb, le-leb, lt-leb, ne_eqb, eqb-true, eqb-false, ltb-true, ltb-false}
-use Rattle.program.specs.Syntax.{Span, Symbol, Kind, Terms, Conditions, Sentences, Visibility, Function, Program}
+use Rattle.program.specs.Syntax.{Symbol, Kind, Terms, Conditions, Sentences, Visibility}
 use Rattle.program.specs.Bytes.{get32}
 use Rattle.program.specs.Limits.{pick, Mode, scalar}
-use Rattle.program.specs.Automaton.{Stack, Values, Turn, wrong, spanned, nested, outside, named, Word, word_term, is_number, TermMark, term_mark, turn_terms, condition_mark, turn_conditions, sentence_mark, turn_sentences, ItemMark, item_mark, turn_function, turn_functions, turn_body, turn_names, turn_counted, turn_visibility, turn_code, turn}
-use Rattle.reader.specs.Steps.{code_refusal, refusal, span_step, name_step, frame, push, kind_on, frame_on, frames, barred_as, DoesAt, Does, terms_kind, TermsKind, bottom, bottom_after}
+use Rattle.program.specs.Automaton.{Stack, Values, Turn, wrong, nested, outside, Word, word_term, is_number, TermMark, term_mark, turn_terms, condition_mark, turn_conditions, sentence_mark, turn_sentences, ItemMark, item_mark, turn_function, turn_functions, turn_body, turn_names, turn_counted, turn_visibility, turn_code, turn}
+use Rattle.reader.specs.Steps.{code_refusal, refusal, span_step, name_step, frame, push, barred_as, DoesAt, Does, terms_kind, TermsKind, bottom, bottom_after}
 use Rattle.program.specs.declared.Refusal.{Refusal}
 use Rattle.reader.proofs.Refusals.{code-good, code_bad}
 use Rattle.reader.specs.declared.turns.Frame.{Frame}

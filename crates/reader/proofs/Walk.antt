@@ -6,19 +6,17 @@ use mathlib.Core.Path.{◌≡◌, refl, sym, ap, subst, ◌∙◌}
 use mathlib.Core.Bool.{Bool, true, false}
 use mathlib.Core.Logic.{◌⊎◌, inl, inr, ⊎_elim}
 use mathlib.Core.List.{List, [], ◌∷◌}
-use lib.ListN.{length, get_or, take, drop, length-drop}
+use lib.ListN.{length, get_or, drop, length-drop}
 use lib.Seq.{drop-cons, drop-drop}
 use lib.Dec.{ltb, leb, eqb}
-use borrow.Author.Tests.{eq-eqb, ne_eqb, ltb-true, ltb-false, eqb-true, eqb-false}
-use Rattle.program.specs.Syntax.{Span, Head, Terms, Conditions, Sentences, Declaration, Function, Program}
+use borrow.Author.Tests.{eq-eqb, ne_eqb, ltb-true, eqb-true, eqb-false}
+use Rattle.program.specs.Syntax.{Span, Head, Sentences, Program}
 use Rattle.program.specs.Bytes.{get32, get_span, Bytes}
-use Rattle.program.specs.Encode.{put_functions, put_body, put_declarations, sentence_count, own_sentence_count}
+use Rattle.program.specs.Encode.{put_body, put_declarations, sentence_count, own_sentence_count}
 use Rattle.program.specs.Limits.{pick, Mode, scalar}
-use Rattle.program.specs.Automaton.{Stack, Values, Turn, wrong, spanned, nested, outside, Scan, scan, scanned, named, Word, TermMark, term_mark, turn_terms, ConditionMark, condition_mark, turn_conditions, SentenceMark, sentence_mark, turn_sentences, ItemMark, item_mark, turn_function, turn_functions, turn_body, turn_names, turn_counted, turn_visibility, turn_code, turn, Read, made, at_end, follow, run}
-use Rattle.reader.specs.Steps.{refusal}
-use Rattle.reader.specs.Tally.{counts, tally_of, functions_in, sentences_in, first_in, tally_in}
-use Rattle.reader.specs.declared.check.Tally.{Tally}
-use Rattle.program.proofs.Sound.{IsSentenceMark, IsItemMark, sentence_mark-is, item_mark-is, encodings, sound, apart}
+use Rattle.program.specs.Automaton.{Stack, Values, Turn, wrong, spanned, nested, outside, Scan, scan, scanned, named, TermMark, term_mark, turn_terms, ConditionMark, condition_mark, turn_conditions, SentenceMark, sentence_mark, turn_sentences, ItemMark, item_mark, turn_function, turn_functions, turn_body, turn_names, turn_counted, turn_visibility, turn_code, turn, Read, made, follow, run}
+use Rattle.reader.specs.Tally.{tally_of, functions_in, sentences_in, first_in, tally_in}
+use Rattle.program.proofs.Sound.{IsSentenceMark, IsItemMark, sentence_mark-is, item_mark-is, encodings, sound}
 
 -- How many frames lie on the bottom.
 abbrev pub height : Stack → ℕ

@@ -1,5 +1,5 @@
 -- The automaton's turns as the reader makes them: a frame of the stack is two numbers, and a place is counted from the start of the body.
-use Rattle.std.specs.Prelude.{ℕ, zero, suc, ◌+◌, ◌*◌, ◌-◌, ◌/◌, ◌%◌, ◌≤◌, ◌<◌, ◌≡◌, Bool, true, false, List, [], ◌∷◌, length, get_or, take, drop, ltb, leb, eqb}
+use Rattle.std.specs.Prelude.{ℕ, zero, suc, ◌+◌, ◌-◌, ◌≤◌, ◌<◌, ◌≡◌, Bool, true, false, List, length, get_or, drop, ltb, leb, eqb}
 use Rattle.program.specs.Bytes.{get32}
 use Rattle.program.specs.Limits.{pick, Mode, scalar}
 use Rattle.program.specs.Automaton.{Stack, Values, Scan, scan, Turn, turn}

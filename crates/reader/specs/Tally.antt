@@ -1,11 +1,10 @@
 -- What reading a whole body comes to: a refusal with its place, or the counts that the trailer has to agree with.
-use Rattle.std.specs.Prelude.{ℕ, zero, suc, ◌+◌, ◌*◌, ◌-◌, ◌/◌, ◌%◌, ◌≤◌, ◌<◌, ◌≡◌, Bool, true, false, List, [], ◌∷◌, length, get_or, set, drop, ltb, leb, eqb}
+use Rattle.std.specs.Prelude.{ℕ, zero, suc, ◌+◌, ◌-◌, ◌/◌, ◌%◌, ◌≤◌, ◌<◌, ◌≡◌, List, length, get_or, set, drop, eqb}
 use Rattle.program.specs.Syntax.{Program}
 use Rattle.program.specs.Encode.{put_functions, sentence_count, own_sentence_count}
 use Rattle.program.specs.Limits.{pick}
 use Rattle.program.specs.Automaton.{Stack, Values, Read, run}
 use Rattle.reader.specs.Steps.{refusal, frame, frame_on, bottom, bottom_after, DoesAt, Does}
-use Rattle.program.specs.declared.Refusal.{Refusal}
 use Rattle.reader.specs.declared.turns.Frame.{Frame}
 use Rattle.reader.specs.declared.turns.Push.{Push}
 use Rattle.reader.specs.declared.turns.Step.{Step}

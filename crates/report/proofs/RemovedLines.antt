@@ -11,7 +11,6 @@ use lib.ListN.{drop, get_elem?, length, length-append, drop_of_length-le}
 use Rattle.told.proofs.Asked.{restricted-is, is_restricted}
 use Rattle.cleaning.proofs.Owned.{before-next}
 use Rattle.told.specs.Asked.{is_judged, is_rejected, meets, uncharacterises, restricts}
-use Rattle.meaning.specs.Cleaning.{rejected, round}
 use Rattle.told.specs.History.{FunctionsLeft, SentencesLeft, Told, is_there, rejects, some_accepted}
 use Rattle.told.specs.Numbered.{sites_of, sentences_before, Held}
 use Rattle.meaning.specs.Root.{root_place}

@@ -1,11 +1,9 @@
 -- The numbers of a report, for the program whose rounds have been told.
-use Rattle.std.specs.Prelude.{ℕ, suc, ◌<◌, ◌≡◌, length}
-use mathlib.Core.List.{List, [], flat_map}
+use Rattle.std.specs.Prelude.{ℕ, ◌<◌, ◌≡◌, length}
+use mathlib.Core.List.{List, flat_map}
 use Rattle.program.specs.Syntax.{Program}
-use Rattle.program.specs.Encode.{own_sentence_count}
 use Rattle.index.specs.declared.Plan.{Plan}
 use Rattle.meaning.specs.CleanReport.{CleanReport}
-use Rattle.told.specs.History.{start_of}
 use Rattle.cleaning.specs.Indexed.{fell_of}
 use Rattle.told.specs.ToldReport.{told_report}
 use Rattle.meaning.specs.Report.{removed_line, undecided_line, uncovered_line, uncharacterised_line}

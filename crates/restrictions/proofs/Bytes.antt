@@ -1,7 +1,7 @@
 -- How many bytes sites, sentences and functions take at least: so much room there is for their entries.
 use Prim.Native.Nat.{ℕ, suc, ◌+◌, ◌*◌, ◌≤◌}
 use native.Mathlib.Omega.{arith}
-use mathlib.Core.List.{List, [], ◌∷◌, ◌++◌}
+use mathlib.Core.List.{List, [], ◌∷◌}
 use lib.ListN.{length, length-append}
 use Rattle.program.specs.Syntax.{Terms, nil, symbol, variable, bracket, call, block, Conditions, none, condition, Sentences, empty, sentence, Function}
 use Rattle.program.specs.Bytes.{put_name}

@@ -18,7 +18,7 @@ use Rattle.meaning.specs.Sites.{Site, site}
 use Rattle.restrictions.specs.Entries.{CallAt, entry_offset, entry_sentence, Entry, Appended}
 use Rattle.told.specs.Numbered.{held_by}
 use Rattle.restrictions.specs.Records.{Records, terms, conditions, put_records, record_sites, ValidRecords, RecordsAt, Collected}
-use Rattle.restrictions.proofs.Inside.{records-length, sort, put_all, sites_then, AllValid, all-length, then_append, OpenHere, CallHere, SentenceHere, CloseHere, FlatHere, open_here, call-here, sentence-here, close-here, flat_here}
+use Rattle.restrictions.proofs.Inside.{records-length, put_all, sites_then, AllValid, all-length, then_append, OpenHere, CallHere, SentenceHere, CloseHere, FlatHere, open_here, call-here, sentence-here, close-here, flat_here}
 use Rattle.restrictions.proofs.Stage.{InResult, InConditions, Stage, own, of_result, of_conditions, stage_on, Stands, to_go, less_back, less-out}
 use Rattle.restrictions.proofs.Appended.{held-append, held-length, appended_nothing, appended-length, appended_then, appended_one}
 

@@ -5,7 +5,7 @@ use mathlib.Core.Path.{◌≡◌, refl, sym, ap, subst, ◌∙◌}
 use mathlib.Core.Bool.{Bool, true, false, ◌&&◌, and_assoc}
 use mathlib.Core.List.{List, [], ◌∷◌}
 use lib.ListN.{length, get_or, drop, length-drop}
-use Rattle.program.specs.Syntax.{Terms, nil, bracket}
+use Rattle.program.specs.Syntax.{Terms, nil}
 use Rattle.program.specs.Bytes.{put32, put_span}
 use Rattle.program.specs.Encode.{put_terms}
 use Rattle.program.specs.Limits.{Mode, ValidTerms}

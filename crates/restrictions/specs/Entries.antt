@@ -5,7 +5,6 @@ use Rattle.program.specs.Syntax.{Name, Span, Terms}
 use Rattle.program.specs.Bytes.{put_span, put_name}
 use Rattle.program.specs.Encode.{put_terms}
 use Rattle.program.specs.Limits.{Mode, ValidTerms}
-use Rattle.meaning.specs.Sites.{Site}
 
 -- "8 call (name, terms, close)": a call at the start of s.
 pub record CallAt (s : List ℕ) : Type 0 where

@@ -1,8 +1,7 @@
 -- Sites with the numbers of the functions' sentences that hold them, and room for them.
-use Rattle.std.specs.Prelude.{ℕ, suc, ◌+◌, ◌≤◌, ◌≡◌, List, [], ◌∷◌, ◌++◌, length, drop}
-use Rattle.program.specs.Sentences.{Sentence}
+use Rattle.std.specs.Prelude.{ℕ, ◌+◌, ◌≤◌, ◌≡◌, List, length, drop}
 use Rattle.image.specs.Parts.{SentenceAt, FunctionsAt}
-use Rattle.meaning.specs.Sites.{Site, collect_call_sites, condition_sites, function_sites}
+use Rattle.meaning.specs.Sites.{function_sites}
 use Rattle.told.specs.Numbered.{held_by, own_sites}
 use Rattle.restrictions.specs.Entries.{Appended}
 use Rattle.restrictions.specs.declared.Walk.{Walk}

@@ -1,9 +1,9 @@
 -- Terms at places of a body, by their first mark.
-use Prim.Native.Nat.{ℕ, ◌+◌, ◌-◌, ◌≤◌}
+use Prim.Native.Nat.{ℕ, ◌+◌, ◌≤◌}
 use native.Mathlib.Omega.{arith}
 use mathlib.Core.Path.{◌≡◌, refl, sym, ap, ◌∙◌, subst}
 use mathlib.Core.List.{List, [], ◌∷◌}
-use lib.ListN.{length, drop, get_or}
+use lib.ListN.{drop, get_or}
 use Rattle.program.specs.Syntax.{Terms}
 use Rattle.program.specs.Encode.{put_terms}
 use Rattle.program.specs.Limits.{Mode, ValidTerms}

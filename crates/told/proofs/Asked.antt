@@ -1,6 +1,6 @@
 -- What a round asks of the sites collected once is what the restrictions of the program that is left say.
 use Prim.Native.Nat.{ℕ}
-use mathlib.Core.Path.{◌≡◌, refl, sym, ap, ap₂, fun_ext, ◌∙◌}
+use mathlib.Core.Path.{◌≡◌, refl, ap, ap₂, fun_ext, ◌∙◌}
 use mathlib.Core.Bool.{Bool, true, false, ◌&&◌, ◌||◌, not, cond, true≢false, false≢true, and-eq-true_iff, and-true}
 use mathlib.Core.List.{List, [], ◌∷◌, map}
 use Rattle.program.specs.Syntax.{Name, Terms}

@@ -15,10 +15,9 @@ use Rattle.meaning.specs.Restrictions.{entering_restrictions}
 use Rattle.meaning.specs.Dispatch.{residual_dispatches_dynamically}
 use Rattle.told.specs.Numbered.{Held, held_sites}
 use Rattle.meaning.specs.Root.{root_place}
-use Rattle.meaning.specs.Cleaning.{Standing, standing, rejected, accepted, Change, kept_of, dropped_of, change, changes, Round, round, changed, left_by, is_none, drops_nothing, rounds_of, is_root, rounds, after, clean_residual_program}
+use Rattle.meaning.specs.Cleaning.{Standing, standing, rejected, accepted, kept_of, dropped_of, change, changes, Round, round, changed, left_by, is_none, drops_nothing, rounds_of, is_root, rounds, after, clean_residual_program}
 use Rattle.told.specs.Kept.{kept_sentences, kept_function, kept_functions, kept_program}
 use Rattle.told.specs.KeptSites.{kept_sites}
-use Rattle.told.specs.Asked.{is_rejected}
 use Rattle.told.specs.History.{is_there, after_all, some_accepted, SentencesLeft, rejects, FunctionsLeft, RoundTold, start_of, rounds_told, numbered, some_number, some_fell, Told}
 use Rattle.meaning.proofs.Bound.{rounds_unfold}
 use Rattle.told.proofs.Kept.{all-kept}

@@ -1,11 +1,9 @@
 -- Sites with the numbers of their sentences are the sites of the program, in the same order.
-use Prim.Native.Nat.{ℕ, suc, ◌+◌}
-use native.Mathlib.Omega.{arith}
+use Prim.Native.Nat.{ℕ, suc}
 use mathlib.Core.Path.{◌≡◌, refl, sym, ap, ◌∙◌}
 use mathlib.Core.List.{List, [], ◌∷◌, ◌++◌, map, append_assoc}
-use lib.ListN.{length, length-append, length-map}
+use lib.ListN.{length, length-map}
 use Rattle.program.specs.Syntax.{Sentences, empty, sentence, Function}
-use Rattle.program.specs.Encode.{sentence_count, own_sentence_count}
 use Rattle.program.specs.Sentences.{Sentence, sentence_list, own_sentences}
 use Rattle.meaning.specs.Sites.{Site, collect_call_sites, condition_sites, sentence_sites, function_sites}
 use Rattle.told.specs.Numbered.{Held, held_by, own_sites, held_sites}

@@ -5,7 +5,7 @@ use Rattle.program.specs.Encode.{sentence_count, own_sentence_count}
 use Rattle.program.specs.Sentences.{Sentence, own_sentences}
 use Rattle.told.specs.Numbered.{Held, held_sites}
 use Rattle.meaning.specs.Root.{root_place}
-use Rattle.meaning.specs.Cleaning.{LeftAlone, Round, round, is_root}
+use Rattle.meaning.specs.Cleaning.{Round, round, is_root}
 use Rattle.told.specs.Kept.{kept_program}
 use Rattle.told.specs.Asked.{is_rejected}
 

@@ -1,5 +1,5 @@
 -- A program with some of its functions' own sentences left out: what Clean writes.
-use Rattle.std.specs.Prelude.{ℕ, zero, suc, ◌+◌, ◌/◌, ◌%◌, ◌^◌, Bool, cond, List, [], ◌∷◌, get_or, eqb}
+use Rattle.std.specs.Prelude.{ℕ, suc, ◌+◌, ◌/◌, ◌%◌, ◌^◌, Bool, cond, List, [], ◌∷◌, get_or, eqb}
 use Rattle.program.specs.Syntax.{Sentences, empty, sentence, Function, Program}
 use Rattle.program.specs.Encode.{sentence_count}
 

@@ -10,7 +10,7 @@ use Rattle.told.specs.Numbered.{Held, sites_of}
 use Rattle.meaning.specs.Restrictions.{entering_restrictions}
 use Rattle.meaning.specs.Root.{root_place}
 use Rattle.meaning.specs.Cleaning.{is_disjoint}
-use Rattle.meaning.specs.Text.{Text, format_terms}
+use Rattle.meaning.specs.Text.{format_terms}
 use Rattle.meaning.specs.CleanReport.{RemovedSentence, UndecidedSentence, UncoveredRestriction, CleanReport, is_overlap, same_undecided, same_uncovered}
 use Rattle.told.specs.KeptSites.{kept_sites}
 use Rattle.told.specs.Asked.{uncharacterises, restricts, is_judged}

@@ -5,7 +5,6 @@ use Rattle.program.proofs.Numbers.{bytes_of}
 use Rattle.answers.specs.Packed.{CleanFits}
 use Rattle.cleaner.proofs.Sentences.{accepted_of}
 use Rattle.cleaner.proofs.Ends.{ended-short, ended-long, ended-output, ended-work, ended-refused, ended-accepted, refused-is}
-use borrow.Author.Rules.{rules}
 use Rattle.cleaner.proofs.clean.Goals as goal
 
 pub returns-then-img-lt12 : goal.returns-then-img-lt12

@@ -1,6 +1,5 @@
 -- `cleaner::compare` meets its contract. Assumes nothing.
 use Rattle.cleaner.proofs.Sentences.{pattern_part, compared, fuel-left}
-use borrow.Author.Rules.{rules}
 use Rattle.cleaner.proofs.compare.Goals as goal
 
 pub patterns_overlap-f-requires : goal.patterns_overlap-f-requires

@@ -1,5 +1,4 @@
 -- `cleaner::overlap` meets its contract. Assumes nothing.
-use borrow.Author.Rules.{rules}
 use Rattle.cleaner.proofs.Sentences.{accepted_of, refused_of, answer-accepted}
 use Rattle.cleaner.proofs.overlap.Goals as goal
 

@@ -1,6 +1,6 @@
 -- `cleaner::overlap_accepted` meets its contract. Assumes nothing.
 use native.Mathlib.Omega.{arith}
-use mathlib.Core.Path.{◌≡◌, sym, ◌∙◌}
+use mathlib.Core.Path.{sym, ◌∙◌}
 use Prim.Native.Nat.{◌-◌}
 use lib.ListN.{length}
 use lib.Seq.{length-take-le}
@@ -8,7 +8,6 @@ use Rattle.program.proofs.Numbers.{bytes_of}
 use Rattle.image.proofs.Accepted.{accepted-long}
 use Rattle.cleaner.proofs.Start.{image_small}
 use Rattle.cleaner.proofs.Sentences.{functions-here, pattern-first, pattern-second, none_first, none-second, both_found}
-use borrow.Author.Rules.{rules}
 use Rattle.cleaner.proofs.overlap_accepted.Goals as goal
 
 pub overflow_sub-n : goal.overflow_sub-n

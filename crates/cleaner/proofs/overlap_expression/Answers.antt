@@ -1,8 +1,6 @@
 -- `cleaner::overlap_expression` meets its contract. Assumes nothing.
-use mathlib.Core.Path.{◌≡◌, ap}
-use borrow.Author.Rules.{rules}
-use Rattle.answers.specs.ExpressionAnswers.{ExpressionLeft, expression_answer}
-use Rattle.cleaner.specs.Shared.{leaving}
+use mathlib.Core.Path.{ap}
+use Rattle.answers.specs.ExpressionAnswers.{ExpressionLeft}
 use Rattle.cleaner.proofs.Sentences.{accepted_of, shares_refused, shares_accepted}
 use Rattle.cleaner.proofs.overlap_expression.Goals as goal
 

@@ -1,7 +1,6 @@
 -- `compare::character_letter` meets its contract. Assumes nothing.
 use native.Mathlib.Omega.{arith}
 use Rattle.compare.proofs.Letters.{first-quote, between_quotes, last-quote}
-use borrow.Author.Rules.{rules}
 use Rattle.compare.proofs.character_letter.Goals as goal
 
 pub returns-then-k-eq0 : goal.returns-then-k-eq0

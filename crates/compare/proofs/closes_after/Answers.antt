@@ -1,5 +1,4 @@
 -- `compare::closes_after` meets its contract. Assumes nothing.
-use borrow.Author.Rules.{rules}
 use Rattle.compare.proofs.Same.{closes_open, closes_one, closes_none}
 use Rattle.compare.proofs.closes_after.Goals as goal
 

@@ -1,7 +1,6 @@
 -- `compare::code_byte` meets its contract. Assumes nothing.
 use mathlib.Core.Path.{◌∙◌}
 use Rattle.compare.proofs.Letters.{place, two_bytes, three_bytes, four_bytes, only_byte, second_of_two, third_of_three, fourth_of_four}
-use borrow.Author.Rules.{rules}
 use Rattle.compare.proofs.code_byte.Goals as goal
 
 pub returns-then-code-lt128 : goal.returns-then-code-lt128

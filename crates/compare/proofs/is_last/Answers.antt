@@ -4,7 +4,6 @@ use native.Mathlib.Omega.{arith}
 use mathlib.Core.Path.{ap}
 use lib.Dec.{eqb}
 use Rattle.compare.proofs.Letters.{letters-short}
-use borrow.Author.Rules.{rules}
 use Rattle.compare.proofs.is_last.Goals as goal
 
 pub overflow_add-result : goal.overflow_add-result

@@ -2,7 +2,6 @@
 use native.Mathlib.Omega.{arith}
 use mathlib.Core.Path.{◌∙◌}
 use Rattle.compare.proofs.Letters.{own-letter, space_letter}
-use borrow.Author.Rules.{rules}
 use Rattle.compare.proofs.letter.Goals as goal
 
 pub text_letter-requires : goal.text_letter-requires

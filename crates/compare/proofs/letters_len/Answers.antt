@@ -5,7 +5,6 @@ use mathlib.Core.Path.{sym, ap, ◌∙◌}
 use mathlib.Core.List.{[], ◌∷◌}
 use lib.ListN.{get_or}
 use Rattle.compare.proofs.Letters.{gap_begin, gap-close, gap_space, letters-length, text-short}
-use borrow.Author.Rules.{rules}
 use Rattle.compare.proofs.letters_len.Goals as goal
 
 pub returns-then-x-eq7 : goal.returns-then-x-eq7

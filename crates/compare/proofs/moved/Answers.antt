@@ -2,7 +2,6 @@
 use mathlib.Core.Path.{sym, ap, ◌∙◌}
 use mathlib.Core.Bool.{Bool, cond}
 use Rattle.compare.specs.Letters.{token_length}
-use borrow.Author.Rules.{rules}
 use Rattle.compare.proofs.moved.Goals as goal
 
 pub returns-then-last : goal.returns-then-last

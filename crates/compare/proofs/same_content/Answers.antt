@@ -1,7 +1,6 @@
 -- `compare::same_content` meets its contract. Assumes nothing.
 use native.Mathlib.Omega.{arith}
-use mathlib.Core.Path.{◌≡◌, sym, ◌∙◌}
-use borrow.Author.Rules.{rules}
+use mathlib.Core.Path.{sym, ◌∙◌}
 use borrow.Author.Tests.{eqb-true}
 use Rattle.patterns.proofs.Names.{eq_bytes_true}
 use Rattle.compare.proofs.Letters.{code-room, name-room}

@@ -2,7 +2,6 @@
 use native.Mathlib.Omega.{arith}
 use mathlib.Core.Path.{sym}
 use mathlib.Core.Bool.{true≢false}
-use borrow.Author.Rules.{rules}
 use borrow.Author.Tests.{eqb-true, eqb-false}
 use Rattle.compare.proofs.Same.{not_false, not_true, same_begun, same_closed, same_spaced}
 use Rattle.compare.proofs.same_letters.Goals as goal

@@ -1,9 +1,7 @@
-use Prim.Native.Nat.{◌-◌, ◌*◌}
+use Prim.Native.Nat.{◌-◌}
 use native.Mathlib.Omega.{arith}
 use mathlib.Core.Path.{refl, sym}
-use lib.ListN.{length}
 use Rattle.program.specs.Limits.{Mode}
-use Rattle.image.specs.Parts.{TermsAt}
 use Rattle.rows.proofs.Readings.{part_length}
 use Rattle.compare.proofs.Letters.{letters-short}
 use Rattle.compare.proofs.Cursor.{last-close, cursor_within, going, gone, Comparing, comparing_first, first_ends, second-ends, letters-differ, comparing-next}

@@ -1,13 +1,9 @@
 -- `compare::same_text` meets its contract. Assumes nothing.
 use Prim.Native.Nat.{◌-◌, ◌*◌}
-use native.Mathlib.Omega.{arith}
-use mathlib.Core.Path.{refl, sym}
 use lib.ListN.{length}
 use Rattle.program.specs.Limits.{Mode}
 use Rattle.image.specs.Parts.{TermsAt}
-use Rattle.rows.proofs.Readings.{part_length}
-use Rattle.compare.proofs.Letters.{letters-short}
-use Rattle.compare.proofs.Cursor.{last-close, cursor_within, going, gone, Comparing, comparing_first, first_ends, second-ends, letters-differ, comparing-next}
+use Rattle.compare.proofs.Cursor.{Comparing}
 use Rattle.compare.proofs.same_text.Given as goal
 
 abbrev pub invariant-loop-i : goal.invariant-loop-i

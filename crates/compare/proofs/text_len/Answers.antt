@@ -5,7 +5,6 @@ use lib.ListN.{length}
 use Rattle.meaning.specs.Text.{utf8}
 use Rattle.text.proofs.Leaves.{utf8-length}
 use Rattle.compare.proofs.Letters.{code-room, name-room, length_of_code, length_of_name, length_of_variable, length_of_mark}
-use borrow.Author.Rules.{rules}
 use Rattle.compare.proofs.text_len.Goals as goal
 
 pub read32-requires : goal.read32-requires

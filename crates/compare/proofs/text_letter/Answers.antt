@@ -7,7 +7,6 @@ use lib.ListN.{length, get_or}
 use Rattle.program.specs.Syntax.{character}
 use Rattle.meaning.specs.Text.{format_symbol}
 use Rattle.compare.proofs.Letters.{text-code, text-name, text-variable, name-letter, code-room, name-room, length_of_name, length_of_variable, begin_letter, close-letter}
-use borrow.Author.Rules.{rules}
 use Rattle.compare.proofs.text_letter.Goals as goal
 
 pub read32-requires : goal.read32-requires

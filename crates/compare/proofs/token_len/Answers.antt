@@ -2,7 +2,6 @@
 use native.Mathlib.Omega.{arith}
 use mathlib.Core.Path.{sym}
 use Rattle.compare.proofs.Letters.{length-code, length-name, length_begin, length-close, name-room}
-use borrow.Author.Rules.{rules}
 use Rattle.compare.proofs.token_len.Goals as goal
 
 pub returns-then-m-eq1 : goal.returns-then-m-eq1

@@ -3,7 +3,6 @@ use Prim.Native.Nat.{ℕ, ◌+◌, ◌-◌}
 use native.Mathlib.Omega.{arith}
 use mathlib.Core.Path.{◌≡◌, ap}
 use lib.ListN.{get_or, take, drop}
-use borrow.Author.Rules.{rules}
 use Rattle.compare.specs.Letters.{token_name}
 use Rattle.compare.proofs.token_name.Goals as goal
 

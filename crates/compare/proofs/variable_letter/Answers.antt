@@ -6,7 +6,6 @@ use lib.ListN.{get_or}
 use Rattle.text.specs.FormatTerm.{kind_letter}
 use Rattle.compare.specs.Letters.{token_name}
 use Rattle.compare.proofs.Letters.{place, variable_point, variable_name_letter}
-use borrow.Author.Rules.{rules}
 use Rattle.compare.proofs.variable_letter.Goals as goal
 
 pub returns-then-k-eq0 : goal.returns-then-k-eq0

@@ -1,5 +1,4 @@
 -- `configuration::closes_after` meets its contract. Assumes nothing.
-use borrow.Author.Rules.{rules}
 use Rattle.configuration.proofs.Closes.{closes_open, closes_close, closes_same}
 use Rattle.configuration.proofs.closes_after.Goals as goal
 

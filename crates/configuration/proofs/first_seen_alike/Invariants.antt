@@ -1,11 +1,9 @@
 -- `configuration::first_seen_alike` meets its contract. Assumes nothing.
-use native.Mathlib.Omega.{arith}
 use Prim.Native.Nat.{◌-◌, ◌≤◌}
-use mathlib.Core.Path.{sym}
 use lib.ListN.{length}
 use Rattle.patterns.specs.Names.{caseless}
 use Rattle.configuration.specs.Lockstep.{Walked}
-use Rattle.configuration.proofs.Scan.{part_length, Scanning, scanning_first, scanning_end, one_part, two_part, first-met, second-met, token-moves, scanning-next}
+use Rattle.configuration.proofs.Scan.{Scanning}
 use Rattle.configuration.proofs.first_seen_alike.Given as goal
 
 abbrev pub invariant-loop-x : goal.invariant-loop-x

@@ -1,13 +1,9 @@
 -- `configuration::same_configuration` meets its contract. Assumes nothing.
-use native.Mathlib.Omega.{arith}
 use Prim.Native.Nat.{◌+◌, ◌-◌, ◌≤◌}
-use mathlib.Core.Path.{sym, ◌∙◌}
-use lib.ListN.{length, get_or}
+use lib.ListN.{length}
 use Rattle.program.specs.Limits.{Mode}
 use Rattle.image.specs.Parts.{TermsAt}
-use Rattle.configuration.proofs.Tokens.{pattern-room}
-use Rattle.configuration.proofs.Scan.{part, part_length}
-use Rattle.configuration.proofs.Lockstep.{Lockstep, lockstep_first, lockstep_end, one_part, two_part, here-within, token-fails, walked_here, numbering-fails, moves-on, lockstep-next, closes_most}
+use Rattle.configuration.proofs.Lockstep.{Lockstep}
 use Rattle.configuration.proofs.same_configuration.Given as goal
 
 abbrev pub invariant-loop-closes : goal.invariant-loop-closes

@@ -1,6 +1,5 @@
 -- `configuration::same_numbering` meets its contract. Assumes nothing.
 use native.Mathlib.Omega.{arith}
-use borrow.Author.Rules.{rules}
 use mathlib.Core.Path.{sym, ◌∙◌}
 use Rattle.configuration.proofs.Tokens.{pattern-room, variable-room, variable-name}
 use Rattle.configuration.proofs.Alike.{one_part, two_part, walked-within, no_variables, second-low, second-high, two_variables}

@@ -2,7 +2,6 @@
 use native.Mathlib.Omega.{arith}
 use mathlib.Core.Bool.{false}
 use Rattle.patterns.specs.Meet.{meet}
-use borrow.Author.Rules.{rules}
 use Rattle.expression.proofs.Bound.{meeting_short}
 use Rattle.expression.proofs.put_meeting.Goals as goal
 

@@ -1,6 +1,6 @@
 -- `overlap::overlap_behind` meets its contract: the patterns are tails of the body, and the cell of the rows answers as the search.
 use native.Mathlib.Omega.{arith}
-use mathlib.Core.Path.{◌≡◌, refl, sym, ◌∙◌}
+use mathlib.Core.Path.{refl, sym, ◌∙◌}
 use Rattle.rows.specs.Parts.{PatternIn}
 use Rattle.rows.proofs.Places.{kept_same}
 use Rattle.rows.proofs.Readings.{part, part_length, inside, at_part, pattern-at}

@@ -1,7 +1,6 @@
 -- `overlap::told` meets its contract.
 use Prim.Native.Nat.{◌-◌, ◌/◌}
 use mathlib.Core.Path.{ap}
-use borrow.Author.Rules.{rules}
 use borrow.Author.Tests.{lt-ltb, le-ltb}
 use Rattle.patterns.specs.declared.Verdict.{Verdict}
 use Rattle.patterns.specs.Search.{found}

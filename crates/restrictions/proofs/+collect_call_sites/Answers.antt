@@ -1,4 +1,4 @@
-use Prim.Native.Nat.{ℕ, ◌+◌, ◌<◌, ◌≤◌}
+use Prim.Native.Nat.{ℕ, ◌+◌}
 use native.Mathlib.Omega.{arith}
 use mathlib.Core.Path.{◌≡◌, refl}
 use mathlib.Core.List.{List}
@@ -6,7 +6,7 @@ use lib.ListN.{length, drop}
 use Rattle.program.specs.Limits.{Mode}
 use Rattle.rows.proofs.Readings.{part_length}
 use Rattle.restrictions.specs.Records.{RecordsAt}
-use Rattle.restrictions.proofs.Stage.{to_go, less-on, less_in}
+use Rattle.restrictions.proofs.Stage.{less-on, less_in}
 use Rattle.restrictions.proofs.Going.{Going, body_with, body_with_lem, part_of_body, going_first, going_within, going_length, stands, inner_reading, inner_room, inner_fits, descended, skipped, flat-part, flat_fits, flat_passed, call_part, call-space, argument-fits, call-passed, sentence-part, none_before, conditions-fits, result_fits, sentence-entered, inside-fits, lists-opened, going_done, resumed, resumed-less}
 use Rattle.restrictions.proofs.+collect_call_sites.Goals as goal
 

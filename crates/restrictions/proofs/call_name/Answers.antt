@@ -1,6 +1,5 @@
 -- `restrictions::call_name` meets its contract. Assumes nothing.
 use native.Mathlib.Omega.{arith}
-use borrow.Author.Rules.{rules}
 use Rattle.restrictions.proofs.Calls.{call-room, callee_at}
 use Rattle.restrictions.proofs.call_name.Goals as goal
 

@@ -1,7 +1,4 @@
-use Prim.Native.Nat.{◌-◌, ◌≤◌}
 use native.Mathlib.Omega.{arith}
-use lib.ListN.{length, drop}
-use Rattle.image.specs.Parts.{FunctionsAt}
 use Rattle.restrictions.proofs.Walking.{Walking, walking_first, walking_length, walking_end, walking_close, function-part, function-fits, walking-function, sentence-there, sentence-small, sentence-room, sentence-later, walking-sentence}
 use Rattle.restrictions.proofs.program_sites.Goals as goal
 

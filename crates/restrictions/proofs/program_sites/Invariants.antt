@@ -1,9 +1,8 @@
 -- `restrictions::program_sites` meets its contract. Assumes nothing.
 use Prim.Native.Nat.{◌-◌, ◌≤◌}
-use native.Mathlib.Omega.{arith}
 use lib.ListN.{length, drop}
 use Rattle.image.specs.Parts.{FunctionsAt}
-use Rattle.restrictions.proofs.Walking.{Walking, walking_first, walking_length, walking_end, walking_close, function-part, function-fits, walking-function, sentence-there, sentence-small, sentence-room, sentence-later, walking-sentence}
+use Rattle.restrictions.proofs.Walking.{Walking}
 use Rattle.restrictions.proofs.program_sites.Given as goal
 
 abbrev pub invariant-loop-p : goal.invariant-loop-p

@@ -1,12 +1,9 @@
 -- `restrictions::restriction_is_characterisable` meets its contract. Assumes nothing.
-use Prim.Native.Nat.{◌+◌, ◌-◌, ◌<◌, ◌≤◌}
-use native.Mathlib.Omega.{arith}
-use mathlib.Core.Path.{sym}
+use Prim.Native.Nat.{◌+◌, ◌-◌, ◌≤◌}
 use lib.ListN.{length}
 use Rattle.program.specs.Limits.{Mode}
 use Rattle.image.specs.Parts.{TermsAt}
-use Rattle.rows.proofs.Readings.{part_length}
-use Rattle.restrictions.proofs.Within.{Within, within_first, within-terms, within-room, within-call, within_block, within-bracket, bracket-fits, within-last, within-close, within_flat, flat_fits}
+use Rattle.restrictions.proofs.Within.{Within}
 use Rattle.restrictions.proofs.restriction_is_characterisable.Given as goal
 
 abbrev pub invariant-loop-closes : goal.invariant-loop-closes

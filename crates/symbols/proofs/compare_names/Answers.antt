@@ -1,7 +1,5 @@
-use Prim.Native.Nat.{◌-◌}
 use native.Mathlib.Omega.{arith}
-use lib.ListN.{length}
-use Rattle.patterns.proofs.Equal.{ComparedTo, compared_none, lengths_differ, pair-next, pair_differs, pairs-all}
+use Rattle.patterns.proofs.Equal.{compared_none, lengths_differ, pair-next, pair_differs, pairs-all}
 use Rattle.symbols.proofs.compare_names.Goals as goal
 
 pub returns-then-a-b : goal.returns-then-a-b

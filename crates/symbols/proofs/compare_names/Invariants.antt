@@ -1,8 +1,7 @@
 -- `symbols::compare_names` meets its contract. The invariant: what is left of the two is compared as the wholes are.
 use Prim.Native.Nat.{◌-◌}
-use native.Mathlib.Omega.{arith}
 use lib.ListN.{length}
-use Rattle.patterns.proofs.Equal.{ComparedTo, compared_none, lengths_differ, pair-next, pair_differs, pairs-all}
+use Rattle.patterns.proofs.Equal.{ComparedTo}
 use Rattle.symbols.proofs.compare_names.Given as goal
 
 abbrev pub invariant-loop-i : goal.invariant-loop-i

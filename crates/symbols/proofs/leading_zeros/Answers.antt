@@ -1,8 +1,5 @@
-use Prim.Native.Nat.{◌≤◌, ◌-◌}
 use native.Mathlib.Omega.{arith}
-use mathlib.Core.Path.{◌≡◌, refl, sym, ◌∙◌}
-use lib.ListN.{length, drop}
-use Rattle.patterns.specs.Symbols.{significant}
+use mathlib.Core.Path.{refl, sym, ◌∙◌}
 use Rattle.patterns.proofs.Symbols.{significant_zero, significant-other, significant-end}
 use Rattle.symbols.proofs.leading_zeros.Goals as goal
 

@@ -1,10 +1,8 @@
 -- `symbols::leading_zeros` meets its contract. The invariant: the digits left say the same number as the whole.
 use Prim.Native.Nat.{◌≤◌, ◌-◌}
-use native.Mathlib.Omega.{arith}
-use mathlib.Core.Path.{◌≡◌, refl, sym, ◌∙◌}
+use mathlib.Core.Path.{◌≡◌}
 use lib.ListN.{length, drop}
 use Rattle.patterns.specs.Symbols.{significant}
-use Rattle.patterns.proofs.Symbols.{significant_zero, significant-other, significant-end}
 use Rattle.symbols.proofs.leading_zeros.Given as goal
 
 abbrev pub invariant-loop-i : goal.invariant-loop-i

@@ -1,8 +1,5 @@
-use Prim.Native.Nat.{◌≤◌, ◌-◌}
 use native.Mathlib.Omega.{arith}
-use mathlib.Core.Path.{◌≡◌, refl, sym, ◌∙◌}
-use lib.ListN.{length, drop}
-use Rattle.patterns.specs.Names.{eq_bytes}
+use mathlib.Core.Path.{refl, sym, ◌∙◌}
 use Rattle.patterns.proofs.Equal.{bytes_next, bytes_differ, bytes-end, bytes_lengths}
 use Rattle.symbols.proofs.same_bytes.Goals as goal
 

@@ -1,10 +1,8 @@
 -- `symbols::same_bytes` meets its contract. The invariant: what is left of the two is equal exactly if the wholes are.
 use Prim.Native.Nat.{◌≤◌, ◌-◌}
-use native.Mathlib.Omega.{arith}
-use mathlib.Core.Path.{◌≡◌, refl, sym, ◌∙◌}
+use mathlib.Core.Path.{◌≡◌}
 use lib.ListN.{length, drop}
 use Rattle.patterns.specs.Names.{eq_bytes}
-use Rattle.patterns.proofs.Equal.{bytes_next, bytes_differ, bytes-end, bytes_lengths}
 use Rattle.symbols.proofs.same_bytes.Given as goal
 
 abbrev pub invariant-loop-i : goal.invariant-loop-i

@@ -1,5 +1,4 @@
 -- `symbols::same_name` meets its contract. Assumes nothing.
-use borrow.Author.Rules.{rules}
 use mathlib.Core.Path.{ap}
 use Rattle.patterns.specs.declared.NameComparison.{NameComparison}
 use Rattle.patterns.specs.Names.{compare_names}

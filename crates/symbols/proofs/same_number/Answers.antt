@@ -1,5 +1,4 @@
 -- `symbols::same_number` meets its contract. Assumes nothing.
-use borrow.Author.Rules.{rules}
 use Rattle.symbols.proofs.Parts.{part_rest, same_digits}
 use Rattle.symbols.proofs.same_number.Goals as goal
 

@@ -1,5 +1,4 @@
 -- `symbols::same_symbol` meets its contract: each answer follows the marks.
-use borrow.Author.Rules.{rules}
 use native.Mathlib.Omega.{arith}
 use mathlib.Core.Path.{sym, ap₂, ◌∙◌}
 use Rattle.program.specs.Syntax.{Name}

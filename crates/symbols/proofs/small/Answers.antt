@@ -1,5 +1,4 @@
 -- `symbols::small` meets its contract.
-use borrow.Author.Rules.{rules}
 use borrow.Author.Tests.{le-leb, lt-leb}
 use Rattle.patterns.specs.Names.{lower}
 use Rattle.symbols.proofs.small.Goals as goal

@@ -1,7 +1,6 @@
 -- `cleaner::boundary::pack` meets its contract. Assumes nothing.
 use mathlib.Core.Path.{refl}
 use Rattle.answers.specs.Packed.{packed}
-use borrow.Author.Rules.{rules}
 use Rattle.cleaner.proofs.boundary.pack.Goals as goal
 
 pub returns : goal.returns

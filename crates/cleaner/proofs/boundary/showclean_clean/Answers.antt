@@ -2,7 +2,6 @@
 use mathlib.Core.Path.{◌∙◌, subst}
 use Rattle.answers.specs.Packed.{CleanFits}
 use Rattle.cleaner.proofs.Packing.{cleaned_fits, refusal-fits, cleaned_packed, refusal-packed}
-use borrow.Author.Rules.{rules}
 use Rattle.cleaner.proofs.boundary.showclean_clean.Goals as goal
 
 pub pack-requires : goal.pack-requires

@@ -1,7 +1,6 @@
 -- `cleaner::boundary::showclean_overlap` meets its contract. Assumes nothing.
 use mathlib.Core.Path.{◌∙◌}
 use Rattle.cleaner.proofs.Packing.{compared_fits, no_comparison_fits, compared_packed, no_comparison_packed}
-use borrow.Author.Rules.{rules}
 use Rattle.cleaner.proofs.boundary.showclean_overlap.Goals as goal
 
 pub pack-requires : goal.pack-requires

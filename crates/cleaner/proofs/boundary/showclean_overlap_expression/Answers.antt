@@ -3,7 +3,6 @@ use native.Mathlib.Omega.{arith}
 use mathlib.Core.Path.{◌∙◌}
 use Rattle.program.proofs.Numbers.{bytes_of}
 use Rattle.cleaner.proofs.Packing.{shared_fits, shared_small, no_sharing_fits, shared_packed, no_sharing_packed}
-use borrow.Author.Rules.{rules}
 use Rattle.cleaner.proofs.boundary.showclean_overlap_expression.Goals as goal
 
 pub overflow_add-middle : goal.overflow_add-middle

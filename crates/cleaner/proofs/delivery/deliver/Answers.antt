@@ -13,7 +13,6 @@ use Rattle.answers.specs.declared.CleanAnswer.{CleanAnswer}
 use Rattle.cleaner.specs.Writing.{Wrote}
 use Rattle.cleaner.proofs.Wrote.{wrote_nothing, wrote_all, emitted-whole, whole_length, whole-fits}
 use Rattle.cleaner.proofs.Delivered.{none_from, image_told, text-told, after-told, after-few, sentences-few, still, written_as, marks_are, marks_used, emitted_used}
-use borrow.Author.Rules.{rules}
 use Rattle.cleaner.proofs.delivery.deliver.Goals as goal
 
 pub overflow_sub-n : goal.overflow_sub-n

@@ -9,7 +9,6 @@ use Rattle.cleaning.proofs.Indexed.{only_rounds_indexed}
 use Rattle.cleaner.proofs.AfterRounds.{linked_tabled, root-found, linked_ready, marks-indexed, noted-readable, rounds-done}
 use Rattle.report.specs.Emitting.{Readable}
 use Rattle.report.proofs.OpenNotes.{decided-all}
-use borrow.Author.Rules.{rules}
 use Rattle.cleaner.proofs.rounds.clean_listed.Goals as goal
 
 pub root_place-root-requires : goal.root_place-root-requires

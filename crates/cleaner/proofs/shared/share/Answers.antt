@@ -1,18 +1,16 @@
 -- `cleaner::shared::share` meets its contract. Assumes nothing.
 use native.Mathlib.Omega.{arith}
 use Prim.Native.Nat.{ℕ}
-use mathlib.Core.Path.{◌≡◌, sym, ap, subst, ◌∙◌}
+use mathlib.Core.Path.{◌≡◌, ap, subst, ◌∙◌}
 use mathlib.Core.List.{List, [], ◌++◌}
 use lib.ListN.{length}
 use Rattle.patterns.specs.Marks.{put_expression}
 use Rattle.patterns.specs.Meet.{meet}
 use Rattle.text.specs.Fill.{Emitted}
 use Rattle.answers.specs.declared.ExpressionAnswer.{ExpressionAnswer}
-use Rattle.answers.specs.ExpressionAnswers.{ExpressionLeft}
 use Rattle.cleaner.specs.Shared.{leaving}
 use Rattle.cleaner.proofs.Sentences.{pattern_part, fuel-left}
 use Rattle.cleaner.proofs.Meetings.{counted, not_taken, not_left, nothing_shared, too_short, shared_written}
-use borrow.Author.Rules.{rules}
 use Rattle.cleaner.proofs.shared.share.Goals as goal
 
 pub sequence_overlap-f-requires : goal.sequence_overlap-f-requires

@@ -1,9 +1,9 @@
 -- `cleaner::shared::share_accepted` meets its contract. Assumes nothing.
 use native.Mathlib.Omega.{arith}
-use Prim.Native.Nat.{ℕ, ◌-◌, ◌<◌}
+use Prim.Native.Nat.{ℕ, ◌-◌}
 use mathlib.Core.Path.{◌≡◌, sym, ap, ◌∙◌}
 use mathlib.Core.List.{List}
-use lib.ListN.{length, take, get_or}
+use lib.ListN.{length, take}
 use lib.Seq.{length-take-le}
 use Rattle.program.specs.Bytes.{Bytes}
 use Rattle.program.proofs.Numbers.{bytes_of}
@@ -14,7 +14,6 @@ use Rattle.answers.specs.ExpressionAnswers.{refusing_expression}
 use Rattle.cleaner.specs.Shared.{leaving}
 use Rattle.cleaner.proofs.Start.{image_small}
 use Rattle.cleaner.proofs.Sentences.{functions-here, pattern-first, pattern-second, shares-none-first, shares-none-second, shares-both}
-use borrow.Author.Rules.{rules}
 use Rattle.cleaner.proofs.shared.share_accepted.Goals as goal
 
 body-length : (s : List ℕ) → Bytes s → Accepted s → length (take (length s - 12) s) ≡ length s - 12

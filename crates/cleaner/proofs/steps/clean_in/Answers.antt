@@ -7,7 +7,6 @@ use Rattle.image.proofs.Accepted.{accepted-long}
 use Rattle.program.proofs.Own.{own-counted}
 use Rattle.told.specs.Numbered.{sites_of}
 use Rattle.cleaner.proofs.Start.{body_of, some-program, dispatch_is, sites-at, some-sites, sites_fit, listed_small, delivered}
-use borrow.Author.Rules.{rules}
 use Rattle.cleaner.proofs.steps.clean_in.Goals as goal
 
 pub overflow_sub-n : goal.overflow_sub-n

@@ -11,7 +11,6 @@ use Rattle.answers.specs.declared.CleanAnswer.{CleanAnswer}
 use Rattle.cleaner.specs.Writing.{Wrote}
 use Rattle.report.proofs.Short.{unchanged_short}
 use Rattle.cleaner.proofs.Wrote.{wrote_nothing, wrote_all, emitted-none, emitted-whole, pasted_whole, same_image, whole_length, whole-fits}
-use borrow.Author.Rules.{rules}
 use Rattle.cleaner.proofs.unchanged.leave_alone.Goals as goal
 
 pub returns-then-report-needed : goal.returns-then-report-needed

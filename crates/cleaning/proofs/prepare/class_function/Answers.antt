@@ -1,10 +1,9 @@
 -- `cleaning::prepare::class_function` meets its contract. Assumes nothing.
 use Prim.Native.Nat.{ℕ, ◌+◌, ◌-◌}
 use native.Mathlib.Omega.{arith}
-use mathlib.Core.Path.{◌≡◌, sym, subst}
+use mathlib.Core.Path.{sym, subst}
 use mathlib.Core.List.{List}
 use lib.ListN.{length}
-use borrow.Author.Rules.{rules}
 use Rattle.program.specs.Syntax.{Program}
 use Rattle.told.specs.Numbered.{sites_of}
 use Rattle.index.specs.Bucket.{Filed}

@@ -1,8 +1,6 @@
-use Prim.Native.Nat.{◌-◌, ◌≤◌}
 use native.Mathlib.Omega.{arith}
 use mathlib.Core.Path.{◌≡◌, subst}
-use Rattle.program.specs.Syntax.{Program}
-use Rattle.cleaning.specs.Prepared.{Chains, ClassesWritten}
+use Rattle.cleaning.specs.Prepared.{ClassesWritten}
 use Rattle.cleaning.proofs.Classes.{classes_none}
 use Rattle.cleaning.proofs.prepare.class_sites.Goals as goal
 

@@ -1,10 +1,7 @@
 -- `cleaning::prepare::class_sites` meets its contract. Assumes nothing.
 use Prim.Native.Nat.{◌-◌, ◌≤◌}
-use native.Mathlib.Omega.{arith}
-use mathlib.Core.Path.{◌≡◌, subst}
 use Rattle.program.specs.Syntax.{Program}
 use Rattle.cleaning.specs.Prepared.{Chains, ClassesWritten}
-use Rattle.cleaning.proofs.Classes.{classes_none}
 use Rattle.cleaning.proofs.prepare.class_sites.Given as goal
 
 abbrev pub invariant-loop-f : goal.invariant-loop-f

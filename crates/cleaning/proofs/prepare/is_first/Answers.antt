@@ -1,9 +1,7 @@
 -- `cleaning::prepare::is_first` meets its contract. Assumes nothing.
-use Prim.Native.Nat.{ℕ}
 use native.Mathlib.Omega.{arith}
-use mathlib.Core.Path.{◌≡◌, refl, subst}
+use mathlib.Core.Path.{refl, subst}
 use lib.ListN.{get_or}
-use borrow.Author.Rules.{rules}
 use borrow.Author.Tests.{eqb-false}
 use Rattle.program.specs.Syntax.{Name}
 use Rattle.index.specs.First.{First}

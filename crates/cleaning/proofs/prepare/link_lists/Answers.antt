@@ -1,8 +1,6 @@
 -- `cleaning::prepare::link_lists` meets its contract. Assumes nothing.
 use Prim.Native.Nat.{◌+◌}
 use native.Mathlib.Omega.{arith}
-use lib.ListN.{length}
-use borrow.Author.Rules.{rules}
 use Rattle.told.specs.Numbered.{sites_of}
 use Rattle.cleaning.proofs.LinkedLists.{room-left, tabled-filled, indexed-cleared, filed-cleared, columns-cleared, indexed-linked, filed-linked, small-linked, lists_kept, chains-linked}
 use Rattle.cleaning.proofs.prepare.link_lists.Goals as goal

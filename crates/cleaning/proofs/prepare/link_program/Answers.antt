@@ -1,5 +1,4 @@
 -- `cleaning::prepare::link_program` meets its contract. Assumes nothing.
-use borrow.Author.Rules.{rules}
 use Rattle.cleaning.proofs.LinkedLists.{program_linked}
 use Rattle.cleaning.proofs.prepare.link_program.Goals as goal
 

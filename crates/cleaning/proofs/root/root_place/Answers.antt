@@ -1,4 +1,4 @@
-use Prim.Native.Nat.{◌-◌, ◌<◌, ◌≤◌}
+use Prim.Native.Nat.{◌<◌}
 use native.Mathlib.Omega.{arith}
 use mathlib.Core.Path.{◌≡◌, refl, sym, ap, ◌∙◌}
 use mathlib.Core.List.{List}
@@ -7,7 +7,7 @@ use Rattle.program.specs.Syntax.{Function}
 use Rattle.program.specs.Encode.{visibility_byte}
 use Rattle.index.specs.Tabled.{Tabled}
 use Rattle.index.proofs.Entries.{Element, tabled-entry, tabled-there, tabled-stands}
-use Rattle.cleaning.proofs.EntryPlace.{entry_byte, local_byte, LocalTo, local-next, root-found, root_none}
+use Rattle.cleaning.proofs.EntryPlace.{entry_byte, local_byte, local-next, root-found, root_none}
 use Rattle.cleaning.proofs.root.root_place.Goals as goal
 
 pub loop-f-init : goal.loop-f-init

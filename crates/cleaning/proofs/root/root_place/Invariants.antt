@@ -1,14 +1,9 @@
 -- `cleaning::root::root_place` meets its contract. Assumes nothing.
-use Prim.Native.Nat.{◌-◌, ◌<◌, ◌≤◌}
-use native.Mathlib.Omega.{arith}
-use mathlib.Core.Path.{◌≡◌, refl, sym, ap, ◌∙◌}
+use Prim.Native.Nat.{◌-◌, ◌≤◌}
 use mathlib.Core.List.{List}
-use lib.ListN.{length, get_or}
 use Rattle.program.specs.Syntax.{Function}
-use Rattle.program.specs.Encode.{visibility_byte}
 use Rattle.index.specs.Tabled.{Tabled}
-use Rattle.index.proofs.Entries.{Element, tabled-entry, tabled-there, tabled-stands}
-use Rattle.cleaning.proofs.EntryPlace.{entry_byte, local_byte, LocalTo, local-next, root-found, root_none}
+use Rattle.cleaning.proofs.EntryPlace.{LocalTo}
 use Rattle.cleaning.proofs.root.root_place.Given as goal
 
 abbrev pub invariant-loop-f : goal.invariant-loop-f

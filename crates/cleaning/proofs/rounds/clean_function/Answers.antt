@@ -3,16 +3,13 @@ use Prim.Native.Nat.{ℕ, suc, ◌+◌}
 use native.Mathlib.Omega.{arith}
 use mathlib.Core.Path.{◌≡◌, sym, ap, ◌∙◌}
 use mathlib.Core.List.{List}
-use borrow.Author.Tests.{not-true, not-false}
-use lib.ListN.{length}
 use Rattle.program.specs.Syntax.{Program}
 use Rattle.told.specs.Numbered.{sentences_before}
 use Rattle.index.proofs.First.{Element, element_at}
 use Rattle.cleaning.specs.Indexed.{Indexed, SomeBody}
-use Rattle.cleaning.specs.RoundDone.{RoundReady, RoundAt}
+use Rattle.cleaning.specs.RoundDone.{RoundReady}
 use Rattle.cleaning.proofs.Owned.{before-later}
 use Rattle.cleaning.proofs.RoundCode.{indexed-at, witnessed-at, end-at, skip_root, skip_passed, judged_none, judged_one}
-use borrow.Author.Rules.{rules}
 use Rattle.cleaning.proofs.rounds.clean_function.Goals as goal
 
 pub returns-then-f-root : goal.returns-then-f-root

@@ -1,8 +1,7 @@
-use Prim.Native.Nat.{ℕ, suc, ◌+◌, ◌-◌, ◌≤◌}
+use Prim.Native.Nat.{ℕ, suc, ◌+◌}
 use native.Mathlib.Omega.{arith}
 use mathlib.Core.Path.{◌≡◌, subst}
-use Rattle.program.specs.Syntax.{Program}
-use Rattle.cleaning.specs.RoundDone.{RoundReady, RoundAt}
+use Rattle.cleaning.specs.RoundDone.{RoundAt}
 use Rattle.cleaning.proofs.RoundCode.{round-start, round-made}
 use Rattle.cleaning.proofs.rounds.clean_once.Goals as goal
 

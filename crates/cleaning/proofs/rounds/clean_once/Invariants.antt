@@ -1,10 +1,7 @@
 -- `cleaning::rounds::clean_once` meets its contract. Assumes nothing.
-use Prim.Native.Nat.{ℕ, suc, ◌+◌, ◌-◌, ◌≤◌}
-use native.Mathlib.Omega.{arith}
-use mathlib.Core.Path.{◌≡◌, subst}
+use Prim.Native.Nat.{◌-◌, ◌≤◌}
 use Rattle.program.specs.Syntax.{Program}
 use Rattle.cleaning.specs.RoundDone.{RoundReady, RoundAt}
-use Rattle.cleaning.proofs.RoundCode.{round-start, round-made}
 use Rattle.cleaning.proofs.rounds.clean_once.Given as goal
 
 abbrev pub invariant-loop-f : goal.invariant-loop-f

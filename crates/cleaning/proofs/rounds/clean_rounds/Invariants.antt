@@ -1,12 +1,8 @@
 -- `cleaning::rounds::clean_rounds` meets its contract. Assumes nothing.
-use Prim.Native.Nat.{ℕ, suc, ◌+◌, ◌-◌, ◌<◌, ◌≤◌}
-use native.Mathlib.Omega.{arith}
-use mathlib.Core.Path.{◌≡◌, subst, ◌∙◌}
-use mathlib.Core.Bool.{Bool, true, false}
+use Prim.Native.Nat.{suc, ◌-◌}
 use Rattle.program.specs.Syntax.{Program}
-use Rattle.program.proofs.Own.{own-counted}
-use Rattle.cleaning.specs.RoundDone.{RoundMade, RoundsReady}
-use Rattle.cleaning.proofs.AllRounds.{RoundsAt, rounds-start, rounds_fewer, rounds-next, rounds-end}
+use Rattle.cleaning.specs.RoundDone.{RoundsReady}
+use Rattle.cleaning.proofs.AllRounds.{RoundsAt}
 use Rattle.cleaning.proofs.rounds.clean_rounds.Given as goal
 
 abbrev pub invariant-loop-plan : goal.invariant-loop-plan

@@ -1,9 +1,6 @@
 -- `cleaning::rounds::drop_rejected` meets its contract. Assumes nothing.
-use Prim.Native.Nat.{ℕ, ◌-◌, ◌≤◌}
-use native.Mathlib.Omega.{arith}
-use mathlib.Core.Path.{subst}
+use Prim.Native.Nat.{◌-◌, ◌≤◌}
 use Rattle.cleaning.specs.RoundDone.{SentencesDropped}
-use Rattle.cleaning.proofs.Dropping.{dropped-start, dropped-next}
 use Rattle.cleaning.proofs.rounds.drop_rejected.Given as goal
 
 abbrev pub invariant-loop-s : goal.invariant-loop-s

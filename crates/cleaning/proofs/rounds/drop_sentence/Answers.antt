@@ -7,7 +7,6 @@ use lib.ListN.{get_or, set}
 use Rattle.index.specs.Layout.{witnesses}
 use Rattle.cleaning.specs.RoundDone.{SentenceDropped}
 use Rattle.cleaning.proofs.Dropping.{dropped-one, dropped-none, falls_not, falls_unspent}
-use borrow.Author.Rules.{rules}
 use Rattle.cleaning.proofs.rounds.drop_sentence.Goals as goal
 
 pub overflow_cast-work : goal.overflow_cast-work

@@ -1,7 +1,6 @@
 -- `cleaning::rounds::first_sentence` meets its contract. Assumes nothing.
 use native.Mathlib.Omega.{arith}
 use Rattle.cleaning.proofs.Dropping.{first_in_lem, first_past}
-use borrow.Author.Rules.{rules}
 use Rattle.cleaning.proofs.rounds.first_sentence.Goals as goal
 
 pub returns-then-f-plan : goal.returns-then-f-plan

@@ -1,17 +1,11 @@
-use Prim.Native.Nat.{ℕ, suc, ◌+◌, ◌-◌, ◌≤◌}
+use Prim.Native.Nat.{ℕ, suc, ◌+◌}
 use native.Mathlib.Omega.{arith}
 use mathlib.Core.Path.{◌≡◌, refl, sym, subst}
-use mathlib.Core.Bool.{Bool, false}
-use mathlib.Core.List.{List}
-use mathlib.Core.Option.{some}
-use lib.ListN.{length, get_elem?}
-use Rattle.program.specs.Syntax.{Function, Program}
-use Rattle.index.specs.declared.Plan.{Plan}
+use mathlib.Core.Bool.{false}
 use Rattle.index.specs.Layout.{witnesses}
-use Rattle.told.specs.Numbered.{sentences_before}
 use Rattle.told.specs.History.{is_there}
-use Rattle.cleaning.specs.Indexed.{Indexed, fell_of}
-use Rattle.cleaning.specs.Walks.{ColumnsApart, Witnessed}
+use Rattle.cleaning.specs.Indexed.{fell_of}
+use Rattle.cleaning.specs.Walks.{ColumnsApart}
 use Rattle.cleaning.specs.RoundDone.{JudgedUpto}
 use Rattle.cleaning.proofs.Judging.{judged_start, end-within, apart_next, judge_asks, judge_steps}
 use Rattle.cleaning.proofs.Owned.{before-later}

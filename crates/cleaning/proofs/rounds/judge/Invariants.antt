@@ -1,11 +1,10 @@
 -- `cleaning::rounds::judge` meets its contract. Assumes nothing.
 use Prim.Native.Nat.{ℕ, suc, ◌+◌, ◌-◌, ◌≤◌}
-use native.Mathlib.Omega.{arith}
-use mathlib.Core.Path.{◌≡◌, refl, sym, subst}
-use mathlib.Core.Bool.{Bool, false}
+use mathlib.Core.Path.{◌≡◌}
+use mathlib.Core.Bool.{Bool}
 use mathlib.Core.List.{List}
 use mathlib.Core.Option.{some}
-use lib.ListN.{length, get_elem?}
+use lib.ListN.{get_elem?}
 use Rattle.program.specs.Syntax.{Function, Program}
 use Rattle.index.specs.declared.Plan.{Plan}
 use Rattle.index.specs.Layout.{witnesses}
@@ -14,8 +13,6 @@ use Rattle.told.specs.History.{is_there}
 use Rattle.cleaning.specs.Indexed.{Indexed, fell_of}
 use Rattle.cleaning.specs.Walks.{ColumnsApart, Witnessed}
 use Rattle.cleaning.specs.RoundDone.{JudgedUpto}
-use Rattle.cleaning.proofs.Judging.{judged_start, end-within, apart_next, judge_asks, judge_steps}
-use Rattle.cleaning.proofs.Owned.{before-later}
 use Rattle.cleaning.proofs.rounds.judge.Given as goal
 
 -- The sentences below s are judged: for each program that the function may have been given.

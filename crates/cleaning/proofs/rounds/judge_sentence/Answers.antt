@@ -1,8 +1,7 @@
 -- `cleaning::rounds::judge_sentence` meets its contract. Assumes nothing.
-use Prim.Native.Nat.{ℕ, ◌+◌}
+use Prim.Native.Nat.{◌+◌}
 use native.Mathlib.Omega.{arith}
 use mathlib.Core.Path.{sym, ◌∙◌}
-use mathlib.Core.Bool.{Bool}
 use Rattle.program.specs.Sentences.{own_sentences}
 use Rattle.index.specs.Layout.{witnesses}
 use Rattle.index.proofs.First.{element_below}
@@ -10,7 +9,6 @@ use Rattle.told.specs.History.{is_there}
 use Rattle.cleaning.specs.Indexed.{fell_of}
 use Rattle.cleaning.proofs.Judging.{judged_gone, judged_met, judged_unmet}
 use Rattle.cleaning.proofs.Room.{no_column}
-use borrow.Author.Rules.{rules}
 use Rattle.cleaning.proofs.rounds.judge_sentence.Goals as goal
 
 pub is_there-requires : goal.is_there-requires

@@ -14,9 +14,8 @@ use Rattle.index.specs.Links.{list_head}
 use Rattle.index.specs.Lists.{ListAt, Among}
 use Rattle.index.proofs.Alike.{call_of, reading_of}
 use Rattle.cleaning.specs.Indexed.{Indexed}
-use Rattle.cleaning.proofs.Meeting.{list_at, site-below, from_part, verdict-is}
+use Rattle.cleaning.proofs.Meeting.{list_at, site-below, from_part}
 use Rattle.cleaning.proofs.Room.{used_from_part}
-use borrow.Author.Rules.{rules}
 use Rattle.cleaning.proofs.verdict.verdict_at.Goals as goal
 
 pub calls_of-requires : goal.calls_of-requires

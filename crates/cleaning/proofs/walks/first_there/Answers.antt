@@ -1,19 +1,12 @@
-use Prim.Native.Nat.{ℕ, ◌+◌, ◌-◌, ◌<◌, ◌≤◌}
+use Prim.Native.Nat.{ℕ, ◌+◌}
 use native.Mathlib.Omega.{arith}
 use mathlib.Core.Path.{◌≡◌, sym, ap, ◌∙◌}
-use mathlib.Core.Bool.{Bool}
-use mathlib.Core.List.{List}
-use lib.ListN.{length, get_or}
-use Rattle.program.specs.Syntax.{Name}
-use Rattle.told.specs.Numbered.{Held}
+use lib.ListN.{get_or}
 use Rattle.index.specs.Layout.{links}
-use Rattle.index.specs.First.{First}
-use Rattle.told.specs.Calls.{is_listed}
 use Rattle.index.specs.Links.{entry_next}
 use Rattle.told.specs.History.{is_there}
 use Rattle.cleaning.specs.Indexed.{fell_of}
-use Rattle.cleaning.specs.Walks.{Walkable, is_there_listed}
-use Rattle.cleaning.proofs.Walking.{Going, there-first, there-end, there-below, there-found, there-next}
+use Rattle.cleaning.proofs.Walking.{there-first, there-end, there-below, there-found, there-next}
 use Rattle.cleaning.proofs.walks.first_there.Goals as goal
 
 pub links_of-links-requires : goal.links_of-links-requires

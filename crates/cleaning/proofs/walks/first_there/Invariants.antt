@@ -1,20 +1,15 @@
 -- `cleaning::walks::first_there` meets its contract. Assumes nothing.
-use Prim.Native.Nat.{ℕ, ◌+◌, ◌-◌, ◌<◌, ◌≤◌}
-use native.Mathlib.Omega.{arith}
-use mathlib.Core.Path.{◌≡◌, sym, ap, ◌∙◌}
+use Prim.Native.Nat.{ℕ, ◌-◌}
 use mathlib.Core.Bool.{Bool}
 use mathlib.Core.List.{List}
-use lib.ListN.{length, get_or}
 use Rattle.program.specs.Syntax.{Name}
 use Rattle.told.specs.Numbered.{Held}
-use Rattle.index.specs.Layout.{links}
 use Rattle.index.specs.First.{First}
 use Rattle.told.specs.Calls.{is_listed}
-use Rattle.index.specs.Links.{entry_next}
 use Rattle.told.specs.History.{is_there}
 use Rattle.cleaning.specs.Indexed.{fell_of}
 use Rattle.cleaning.specs.Walks.{Walkable, is_there_listed}
-use Rattle.cleaning.proofs.Walking.{Going, there-first, there-end, there-below, there-found, there-next}
+use Rattle.cleaning.proofs.Walking.{Going}
 use Rattle.cleaning.proofs.walks.first_there.Given as goal
 
 abbrev pub invariant-loop-j : goal.invariant-loop-j

@@ -1,12 +1,12 @@
 -- `cleaning::walks::is_judged` meets its contract. Assumes nothing.
-use Prim.Native.Nat.{ℕ, ◌+◌, ◌<◌}
+use Prim.Native.Nat.{ℕ}
 use native.Mathlib.Omega.{arith}
 use mathlib.Core.Path.{◌≡◌, sym, ap, ◌∙◌}
-use mathlib.Core.Bool.{Bool, true, false}
+use mathlib.Core.Bool.{true, false}
 use mathlib.Core.List.{List}
 use mathlib.Core.Option.{some}
 use lib.Dec.{ltb}
-use lib.ListN.{length, get_elem?}
+use lib.ListN.{get_elem?}
 use Rattle.program.specs.Syntax.{Function, Program}
 use Rattle.index.specs.First.{First}
 use Rattle.index.proofs.First.{Element, element_at}
@@ -16,7 +16,6 @@ use Rattle.cleaning.specs.Indexed.{Indexed, fell_of}
 use Rattle.cleaning.specs.Walks.{is_there_listed}
 use Rattle.cleaning.proofs.Indexed.{indexed-walkable}
 use Rattle.cleaning.proofs.Walking.{head_first, walk_from, judged_open, judged_plain}
-use borrow.Author.Rules.{rules}
 use Rattle.cleaning.proofs.walks.is_judged.Goals as goal
 
 pub head_site-requires : goal.head_site-requires

@@ -2,7 +2,7 @@
 use Prim.Native.Nat.{ℕ, ◌+◌, ◌<◌}
 use native.Mathlib.Omega.{arith}
 use mathlib.Core.Path.{◌≡◌, sym, ap, ◌∙◌}
-use mathlib.Core.Bool.{Bool, true, false, not}
+use mathlib.Core.Bool.{true, false, not}
 use lib.ListN.{get_or}
 use Rattle.index.specs.Layout.{links}
 use Rattle.index.specs.Links.{entry_class}
@@ -10,7 +10,6 @@ use Rattle.told.specs.History.{is_there}
 use Rattle.cleaning.specs.Indexed.{fell_of}
 use Rattle.cleaning.proofs.Meeting.{not_is, met_by, site-below, sentence-below, met_gone, met-repeat, met-asked}
 use Rattle.cleaning.proofs.Room.{used_same}
-use borrow.Author.Rules.{rules}
 use Rattle.cleaning.proofs.walks.is_met.Goals as goal
 
 pub site_there-requires : goal.site_there-requires

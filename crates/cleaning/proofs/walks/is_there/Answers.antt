@@ -1,6 +1,5 @@
 -- `cleaning::walks::is_there` meets its contract. Assumes nothing.
 use mathlib.Core.Path.{sym, ◌∙◌}
-use borrow.Author.Rules.{rules}
 use Rattle.cleaning.specs.Indexed.{fell_of}
 use Rattle.cleaning.proofs.Walking.{there_never, there-fell}
 use Rattle.cleaning.proofs.walks.is_there.Goals as goal

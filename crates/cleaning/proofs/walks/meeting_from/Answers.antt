@@ -1,22 +1,18 @@
-use Prim.Native.Nat.{ℕ, ◌+◌, ◌-◌, ◌<◌}
+use Prim.Native.Nat.{ℕ, ◌+◌, ◌<◌}
 use native.Mathlib.Omega.{arith}
 use mathlib.Core.Path.{◌≡◌, ap, subst, ◌∙◌}
-use mathlib.Core.Bool.{Bool, true}
 use mathlib.Core.Option.{some}
 use lib.ListN.{get_or, get_elem?, drop}
 use Rattle.program.specs.Limits.{Mode}
 use Rattle.image.specs.Parts.{TermsAt}
 use Rattle.program.specs.Syntax.{Function, Program}
 use Rattle.index.specs.Layout.{links}
-use Rattle.told.specs.Calls.{is_listed}
 use Rattle.index.specs.Links.{entry_next}
-use Rattle.told.specs.Asked.{meets}
 use Rattle.told.specs.History.{is_there}
 use Rattle.told.specs.Numbered.{sites_of}
 use Rattle.cleaning.specs.Indexed.{Indexed, fell_of}
 use Rattle.cleaning.specs.Room.{Used}
-use Rattle.cleaning.specs.Walks.{OnList, NoneMet, MetAt}
-use Rattle.cleaning.proofs.Walking.{Going}
+use Rattle.cleaning.specs.Walks.{OnList, MetAt}
 use Rattle.cleaning.proofs.Meeting.{here_element, here-listed, on-next, met-found, met_next, met-end, met_start}
 use Rattle.cleaning.proofs.Room.{used_same, used_then, used_indexed, used_fell}
 use Rattle.cleaning.proofs.walks.meeting_from.Goals as goal

@@ -1,25 +1,20 @@
 -- `cleaning::walks::meeting_from` meets its contract. Assumes nothing.
-use Prim.Native.Nat.{ℕ, ◌+◌, ◌-◌, ◌<◌}
-use native.Mathlib.Omega.{arith}
-use mathlib.Core.Path.{◌≡◌, ap, subst, ◌∙◌}
-use mathlib.Core.Bool.{Bool, true}
+use Prim.Native.Nat.{ℕ, ◌-◌}
+use mathlib.Core.Path.{◌≡◌}
+use mathlib.Core.Bool.{true}
 use mathlib.Core.Option.{some}
-use lib.ListN.{get_or, get_elem?, drop}
+use lib.ListN.{get_elem?, drop}
 use Rattle.program.specs.Limits.{Mode}
 use Rattle.image.specs.Parts.{TermsAt}
 use Rattle.program.specs.Syntax.{Function, Program}
-use Rattle.index.specs.Layout.{links}
 use Rattle.told.specs.Calls.{is_listed}
-use Rattle.index.specs.Links.{entry_next}
 use Rattle.told.specs.Asked.{meets}
 use Rattle.told.specs.History.{is_there}
 use Rattle.told.specs.Numbered.{sites_of}
 use Rattle.cleaning.specs.Indexed.{Indexed, fell_of}
 use Rattle.cleaning.specs.Room.{Used}
-use Rattle.cleaning.specs.Walks.{OnList, NoneMet, MetAt}
+use Rattle.cleaning.specs.Walks.{OnList, NoneMet}
 use Rattle.cleaning.proofs.Walking.{Going}
-use Rattle.cleaning.proofs.Meeting.{here_element, here-listed, on-next, met-found, met_next, met-end, met_start}
-use Rattle.cleaning.proofs.Room.{used_same, used_then, used_indexed, used_fell}
 use Rattle.cleaning.proofs.walks.meeting_from.Given as goal
 
 -- The columns are as they were, the walk stays on the list, and nothing before it meets the pattern.

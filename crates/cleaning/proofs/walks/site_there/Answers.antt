@@ -7,7 +7,6 @@ use Rattle.restrictions.specs.Entries.{entry_sentence}
 use Rattle.index.specs.Layout.{calls}
 use Rattle.told.specs.History.{is_there}
 use Rattle.cleaning.specs.Indexed.{fell_of}
-use borrow.Author.Rules.{rules}
 use Rattle.cleaning.proofs.walks.site_there.Goals as goal
 
 pub is_there-requires : goal.is_there-requires

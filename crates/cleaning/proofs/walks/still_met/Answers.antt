@@ -1,10 +1,9 @@
 -- `cleaning::walks::still_met` meets its contract. Assumes nothing.
-use Prim.Native.Nat.{ℕ, suc, ◌+◌, ◌*◌, ◌<◌, ◌≤◌}
+use Prim.Native.Nat.{ℕ, suc, ◌+◌, ◌<◌, ◌≤◌}
 use native.Mathlib.Omega.{arith}
 use mathlib.Core.Path.{◌≡◌, sym, ap, subst, ◌∙◌}
-use mathlib.Core.Bool.{Bool, true, false}
+use mathlib.Core.Bool.{true, false}
 use mathlib.Core.List.{List}
-use mathlib.Core.Option.{some}
 use borrow.Author.Tests.{lt-ltb, le-ltb}
 use lib.Dec.{ltb}
 use lib.ListN.{length, get_or, set, get_elem?, drop}
@@ -14,7 +13,7 @@ use Rattle.image.specs.Parts.{TermsAt}
 use Rattle.program.specs.Sentences.{Sentence, own_sentences}
 use Rattle.program.specs.Syntax.{Function, Program}
 use Rattle.index.specs.First.{First}
-use Rattle.index.specs.Layout.{heads, witnesses, room}
+use Rattle.index.specs.Layout.{heads, witnesses}
 use Rattle.index.specs.Links.{list_head}
 use Rattle.index.proofs.First.{element_below}
 use Rattle.told.specs.Asked.{meets}
@@ -23,11 +22,10 @@ use Rattle.told.specs.Numbered.{sites_of}
 use Rattle.cleaning.specs.Indexed.{Indexed, fell_of}
 use Rattle.index.specs.declared.Plan.{Plan}
 use Rattle.cleaning.specs.Room.{Used}
-use Rattle.cleaning.specs.Walks.{OnList, NoneMet, Owns, WitnessOf, witness_from, StillMet, OneColumn}
+use Rattle.cleaning.specs.Walks.{OnList, NoneMet, Owns, WitnessOf, witness_from, OneColumn}
 use Rattle.cleaning.proofs.Meeting.{number_is, site_element, sentence-below}
 use Rattle.cleaning.proofs.Room.{used_same, one_column, no_column}
 use Rattle.cleaning.proofs.Witnesses.{pattern-there, begins-at, none_left, witness-there, still_by}
-use borrow.Author.Rules.{rules}
 use Rattle.cleaning.proofs.walks.still_met.Goals as goal
 
 -- An entry that is written at k, which is q.

@@ -1,12 +1,11 @@
 -- `cleaning::walks::witness_of` meets its contract. Assumes nothing.
-use Prim.Native.Nat.{ℕ, ◌+◌, ◌-◌, ◌<◌}
+use Prim.Native.Nat.{ℕ, ◌+◌, ◌-◌}
 use native.Mathlib.Omega.{arith}
 use mathlib.Core.Path.{◌≡◌, sym, ap, ◌∙◌}
 use lib.ListN.{get_or}
 use Rattle.index.specs.Layout.{heads, witnesses}
 use Rattle.index.specs.Links.{list_head}
 use mathlib.Core.Bool.{true}
-use borrow.Author.Rules.{rules}
 use Rattle.cleaning.proofs.Walking.{witness-none, witness-some}
 use Rattle.cleaning.proofs.walks.witness_of.Goals as goal
 

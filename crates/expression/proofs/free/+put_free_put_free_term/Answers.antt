@@ -1,14 +1,12 @@
-use Prim.Native.Nat.{ℕ, ◌+◌, ◌-◌, ◌<◌, ◌≤◌, ◌*◌}
+use Prim.Native.Nat.{ℕ, ◌+◌, ◌<◌, ◌≤◌}
 use native.Mathlib.Omega.{arith}
 use mathlib.Core.Path.{◌≡◌, refl, ◌∙◌, sym, ap}
 use mathlib.Core.List.{List, [], ◌∷◌, ◌++◌}
 use lib.ListN.{length}
 use Rattle.program.specs.Limits.{Mode}
-use Rattle.image.specs.Parts.{TermsAt}
 use Rattle.image.proofs.Readings.{result-at}
 use Rattle.rows.proofs.Readings.{part_length, pattern-room, next_fits, term_room}
-use Rattle.expression.proofs.Freeing.{Freeing, freeing_first, freeing_last, freeing_short, freeing_next}
-use borrow.Author.Rules.{rules}
+use Rattle.expression.proofs.Freeing.{freeing_first, freeing_last, freeing_short, freeing_next}
 use Rattle.program.specs.Bytes.{put32, put_span}
 use Rattle.program.specs.Encode.{put_symbol}
 use Rattle.patterns.specs.Marks.{zero_span}

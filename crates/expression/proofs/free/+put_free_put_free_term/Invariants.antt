@@ -1,21 +1,9 @@
-use Prim.Native.Nat.{ℕ, ◌+◌, ◌-◌, ◌<◌, ◌≤◌, ◌*◌}
-use native.Mathlib.Omega.{arith}
-use mathlib.Core.Path.{◌≡◌, refl, ◌∙◌, sym, ap}
-use mathlib.Core.List.{List, [], ◌∷◌, ◌++◌}
+use Prim.Native.Nat.{◌+◌, ◌-◌, ◌≤◌, ◌*◌}
+use mathlib.Core.Path.{◌≡◌}
 use lib.ListN.{length}
 use Rattle.program.specs.Limits.{Mode}
 use Rattle.image.specs.Parts.{TermsAt}
-use Rattle.image.proofs.Readings.{result-at}
-use Rattle.rows.proofs.Readings.{part_length, pattern-room, next_fits, term_room}
-use Rattle.expression.proofs.Freeing.{Freeing, freeing_first, freeing_last, freeing_short, freeing_next}
-use borrow.Author.Rules.{rules}
-use Rattle.program.specs.Bytes.{put32, put_span}
-use Rattle.program.specs.Encode.{put_symbol}
-use Rattle.patterns.specs.Marks.{zero_span}
-use Rattle.patterns.specs.Meet.{letter}
-use Rattle.text.proofs.Fill.{emitted-nothing, emitted-same, emitted-append}
-use Rattle.expression.specs.Free.{free_bytes}
-use Rattle.expression.proofs.Heads.{first-absorbing, first-bracket, first_bracket_bytes, first_bracket_long, first-literal, first_literal_bytes, first_variable_bytes}
+use Rattle.expression.proofs.Freeing.{Freeing}
 use Rattle.expression.proofs.free.+put_free_put_free_term.Given as goal
 
 abbrev pub decreases-put_free : goal.decreases-put_free

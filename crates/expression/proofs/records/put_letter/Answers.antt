@@ -4,7 +4,6 @@ use mathlib.Core.List.{[], ◌∷◌}
 use Rattle.program.specs.Bytes.{put32, put_span}
 use Rattle.patterns.specs.Marks.{zero_span}
 use Rattle.text.proofs.Fill.{emitted-same, emitted-append}
-use borrow.Author.Rules.{rules}
 use Rattle.expression.proofs.Symbols.{letter-whole}
 use Rattle.expression.proofs.records.put_letter.Goals as goal
 

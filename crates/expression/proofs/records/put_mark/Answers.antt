@@ -1,8 +1,6 @@
 -- `expression::records::put_mark` meets its contract. Assumes nothing.
-use native.Mathlib.Omega.{arith}
 use mathlib.Core.List.{[], ◌∷◌}
 use Rattle.text.proofs.Fill.{emitted-same, emitted-append}
-use borrow.Author.Rules.{rules}
 use Rattle.expression.proofs.Symbols.{zero_span_lem}
 use Rattle.expression.proofs.records.put_mark.Goals as goal
 

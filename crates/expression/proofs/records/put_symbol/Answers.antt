@@ -9,7 +9,6 @@ use Rattle.program.specs.Encode.{put_symbol}
 use Rattle.patterns.specs.Marks.{zero_span}
 use Rattle.symbols.proofs.Parts.{symbol-room}
 use Rattle.text.proofs.Fill.{emitted-same, emitted-append}
-use borrow.Author.Rules.{rules}
 use Rattle.expression.proofs.Symbols.{record_whole}
 use Rattle.expression.proofs.records.put_symbol.Goals as goal
 

@@ -2,7 +2,6 @@
 use native.Mathlib.Omega.{arith}
 use mathlib.Core.Path.{refl}
 use Rattle.symbols.proofs.Parts.{symbol-room}
-use borrow.Author.Rules.{rules}
 use Rattle.expression.proofs.Symbols.{code-end, name-end}
 use Rattle.expression.proofs.records.symbol_end.Goals as goal
 

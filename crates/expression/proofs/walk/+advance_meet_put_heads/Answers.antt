@@ -1,16 +1,14 @@
-use Prim.Native.Nat.{ℕ, ◌+◌, ◌<◌, ◌≤◌, ◌-◌, ◌*◌, suc}
+use Prim.Native.Nat.{ℕ, ◌+◌, ◌<◌, ◌≤◌, ◌-◌, suc}
 use native.Mathlib.Omega.{arith}
 use mathlib.Core.Path.{◌≡◌, refl, sym, ap, ◌∙◌, subst}
-use mathlib.Core.Bool.{not}
-use lib.ListN.{length, drop, get_or}
-use borrow.Author.Rules.{rules}
+use lib.ListN.{length}
 use Rattle.program.specs.Limits.{Mode}
-use Rattle.image.specs.Parts.{TermsAt, tail}
+use Rattle.image.specs.Parts.{tail}
 use Rattle.image.proofs.Readings.{result-at}
-use Rattle.rows.proofs.Readings.{inside, at_part, after_term, mark_in, next_fits, part}
+use Rattle.rows.proofs.Readings.{inside, at_part, after_term, mark_in, next_fits}
 use Rattle.overlap.specs.Way.{Next, End, Way, in_turn}
 use Rattle.overlap.proofs.Ways.{next_place, mark-at, inner_at, head_part, head_inside}
-use Rattle.expression.specs.Walk.{head_bytes, meet_bytes, Stepped}
+use Rattle.expression.specs.Walk.{head_bytes, meet_bytes}
 use Rattle.expression.proofs.Freeing.{front_fits, whole-written}
 use Rattle.expression.proofs.Walking.{stepped_as, stepped_first, stepped_on, stepped_short}
 use Rattle.expression.proofs.Leading.{ahead-first, ahead-second, way_at_heads, in_turn-kept}
@@ -19,7 +17,6 @@ use mathlib.Core.List.{List, [], ◌∷◌, ◌++◌}
 use Rattle.rows.specs.Rows.{Kept}
 use Rattle.rows.proofs.Places.{kept_same, kept_then, kept_less}
 use Rattle.expression.proofs.Meeting.{meet-nothing}
-use mathlib.Core.Logic.{⊎_elim}
 use Rattle.program.specs.Bytes.{put32, put_span}
 use Rattle.patterns.specs.Marks.{zero_span}
 use Rattle.patterns.specs.Search.{start}

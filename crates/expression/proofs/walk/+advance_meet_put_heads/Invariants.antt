@@ -1,31 +1,12 @@
-use Prim.Native.Nat.{ℕ, ◌+◌, ◌<◌, ◌≤◌, ◌-◌, ◌*◌, suc}
-use native.Mathlib.Omega.{arith}
-use mathlib.Core.Path.{◌≡◌, refl, sym, ap, ◌∙◌, subst}
-use mathlib.Core.Bool.{not}
-use lib.ListN.{length, drop, get_or}
-use borrow.Author.Rules.{rules}
+use Prim.Native.Nat.{◌+◌, ◌≤◌, ◌-◌, ◌*◌}
+use mathlib.Core.Path.{◌≡◌}
+use lib.ListN.{length, drop}
 use Rattle.program.specs.Limits.{Mode}
-use Rattle.image.specs.Parts.{TermsAt, tail}
-use Rattle.image.proofs.Readings.{result-at}
-use Rattle.rows.proofs.Readings.{inside, at_part, after_term, mark_in, next_fits, part}
-use Rattle.overlap.specs.Way.{Next, End, Way, in_turn}
-use Rattle.overlap.proofs.Ways.{next_place, mark-at, inner_at, head_part, head_inside}
-use Rattle.expression.specs.Walk.{head_bytes, meet_bytes, Stepped}
-use Rattle.expression.proofs.Freeing.{front_fits, whole-written}
-use Rattle.expression.proofs.Walking.{stepped_as, stepped_first, stepped_on, stepped_short}
-use Rattle.expression.proofs.Leading.{ahead-first, ahead-second, way_at_heads, in_turn-kept}
-use Rattle.expression.proofs.Advancing.{left-splits, left-head, right-splits, right-head, heads-first, left_closed, right_closed}
-use mathlib.Core.List.{List, [], ◌∷◌, ◌++◌}
+use Rattle.image.specs.Parts.{TermsAt}
+use Rattle.overlap.specs.Way.{Way, in_turn}
+use Rattle.expression.specs.Walk.{meet_bytes, Stepped}
+use mathlib.Core.List.{[]}
 use Rattle.rows.specs.Rows.{Kept}
-use Rattle.rows.proofs.Places.{kept_same, kept_then, kept_less}
-use Rattle.expression.proofs.Meeting.{meet-nothing}
-use mathlib.Core.Logic.{⊎_elim}
-use Rattle.program.specs.Bytes.{put32, put_span}
-use Rattle.patterns.specs.Marks.{zero_span}
-use Rattle.patterns.specs.Search.{start}
-use Rattle.rows.proofs.Heads.{bracket-at}
-use Rattle.text.proofs.Fill.{emitted-same, emitted-append}
-use Rattle.expression.proofs.Heads.{both-brackets, both_brackets_long}
 use Rattle.expression.proofs.walk.+advance_meet_put_heads.Given as goal
 
 abbrev pub decreases-advance : goal.decreases-advance

@@ -1,11 +1,6 @@
 -- `expression::walk::absorb` meets its contract.
-use Prim.Native.Nat.{◌+◌, ◌-◌, ◌*◌}
 use native.Mathlib.Omega.{arith}
-use mathlib.Core.Path.{◌≡◌, refl, sym, ◌∙◌}
-use mathlib.Core.List.{[]}
-use borrow.Author.Rules.{rules}
 use Rattle.rows.proofs.Places.{kept_same, kept_less}
-use Rattle.overlap.specs.Way.{Taken, Way, in_turn}
 use Rattle.expression.proofs.Leading.{ahead-told, fails-less, onwards_none}
 use Rattle.expression.proofs.walk.absorb.Goals as goal
 

@@ -1,16 +1,12 @@
-use Prim.Native.Nat.{◌+◌, ◌-◌, ◌<◌, ◌≤◌}
+use Prim.Native.Nat.{◌+◌, ◌<◌, ◌≤◌}
 use native.Mathlib.Omega.{arith}
-use mathlib.Core.Path.{◌≡◌, refl, sym, ◌∙◌}
-use lib.ListN.{length, drop}
+use mathlib.Core.Path.{refl, sym, ◌∙◌}
+use lib.ListN.{length}
 use Rattle.program.specs.Limits.{Mode}
-use Rattle.image.specs.Parts.{TermsAt}
 use Rattle.image.proofs.Readings.{result-at}
-use Rattle.rows.specs.Rows.{Kept}
 use Rattle.rows.proofs.Places.{kept_same, kept_then}
 use Rattle.rows.proofs.Readings.{inside, at_part, pattern-room, next_fits}
-use borrow.Author.Rules.{rules}
-use Rattle.expression.specs.Walk.{split_bytes}
-use Rattle.expression.proofs.Walking.{Absorbing, absorbing-first, absorbing-meets, absorbing-fails, absorbing-short, absorbing-next}
+use Rattle.expression.proofs.Walking.{absorbing-first, absorbing-meets, absorbing-fails, absorbing-short, absorbing-next}
 use Rattle.expression.proofs.walk.ask.Goals as goal
 
 pub loop-x-init : goal.loop-x-init

@@ -1,17 +1,12 @@
 -- `expression::walk::ask` meets its contract: the ends from `right` on make up what all of them do.
-use Prim.Native.Nat.{◌+◌, ◌-◌, ◌<◌, ◌≤◌}
-use native.Mathlib.Omega.{arith}
-use mathlib.Core.Path.{◌≡◌, refl, sym, ◌∙◌}
+use Prim.Native.Nat.{◌-◌}
+use mathlib.Core.Path.{◌≡◌}
 use lib.ListN.{length, drop}
 use Rattle.program.specs.Limits.{Mode}
 use Rattle.image.specs.Parts.{TermsAt}
-use Rattle.image.proofs.Readings.{result-at}
 use Rattle.rows.specs.Rows.{Kept}
-use Rattle.rows.proofs.Places.{kept_same, kept_then}
-use Rattle.rows.proofs.Readings.{inside, at_part, pattern-room, next_fits}
-use borrow.Author.Rules.{rules}
 use Rattle.expression.specs.Walk.{split_bytes}
-use Rattle.expression.proofs.Walking.{Absorbing, absorbing-first, absorbing-meets, absorbing-fails, absorbing-short, absorbing-next}
+use Rattle.expression.proofs.Walking.{Absorbing}
 use Rattle.expression.proofs.walk.ask.Given as goal
 
 abbrev pub invariant-loop-x : goal.invariant-loop-x

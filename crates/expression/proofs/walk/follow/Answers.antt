@@ -1,19 +1,17 @@
-use Prim.Native.Nat.{ℕ, ◌+◌, ◌-◌, ◌<◌, ◌≤◌}
+use Prim.Native.Nat.{◌+◌, ◌<◌, ◌≤◌}
 use native.Mathlib.Omega.{arith}
-use mathlib.Core.Path.{◌≡◌, refl, ap, ◌∙◌, subst}
-use mathlib.Core.Bool.{Bool, true}
-use mathlib.Core.List.{List}
-use lib.ListN.{length, drop}
+use mathlib.Core.Path.{refl, ap, ◌∙◌, subst}
+use lib.ListN.{length}
 use Rattle.program.specs.Syntax.{Terms}
 use Rattle.program.specs.Limits.{Mode}
 use Rattle.image.specs.Parts.{TermsAt}
 use Rattle.image.proofs.Readings.{result-at, one-reading}
 use Rattle.patterns.specs.Search.{sequence}
 use Rattle.overlap.specs.Steps.{is_overlap}
-use Rattle.overlap.specs.Way.{Fails, Taken}
-use Rattle.rows.proofs.Readings.{part, inside, at_part, pattern-room, next_fits}
-use Rattle.expression.specs.Walk.{split_bytes, end_of}
-use Rattle.expression.proofs.Walking.{Following, following_first, following_ends, following_more, following_short, following_next}
+use Rattle.overlap.specs.Way.{Fails}
+use Rattle.rows.proofs.Readings.{part, inside, at_part, next_fits}
+use Rattle.expression.specs.Walk.{end_of}
+use Rattle.expression.proofs.Walking.{following_first, following_ends, following_more, following_short, following_next}
 use Rattle.expression.proofs.walk.follow.Goals as goal
 
 pub loop-right-init : goal.loop-right-init

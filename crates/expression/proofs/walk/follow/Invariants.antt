@@ -1,20 +1,13 @@
 -- `expression::walk::follow` meets its contract: the ends from `right` on fail up to the one that is taken.
-use Prim.Native.Nat.{ℕ, ◌+◌, ◌-◌, ◌<◌, ◌≤◌}
-use native.Mathlib.Omega.{arith}
-use mathlib.Core.Path.{◌≡◌, refl, ap, ◌∙◌, subst}
-use mathlib.Core.Bool.{Bool, true}
-use mathlib.Core.List.{List}
+use Prim.Native.Nat.{ℕ, ◌-◌}
+use mathlib.Core.Path.{◌≡◌}
+use mathlib.Core.Bool.{Bool}
 use lib.ListN.{length, drop}
-use Rattle.program.specs.Syntax.{Terms}
 use Rattle.program.specs.Limits.{Mode}
 use Rattle.image.specs.Parts.{TermsAt}
-use Rattle.image.proofs.Readings.{result-at, one-reading}
-use Rattle.patterns.specs.Search.{sequence}
-use Rattle.overlap.specs.Steps.{is_overlap}
-use Rattle.overlap.specs.Way.{Fails, Taken}
-use Rattle.rows.proofs.Readings.{part, inside, at_part, pattern-room, next_fits}
+use Rattle.overlap.specs.Way.{Taken}
 use Rattle.expression.specs.Walk.{split_bytes, end_of}
-use Rattle.expression.proofs.Walking.{Following, following_first, following_ends, following_more, following_short, following_next}
+use Rattle.expression.proofs.Walking.{Following}
 use Rattle.expression.proofs.walk.follow.Given as goal
 
 abbrev pub invariant-loop-right : goal.invariant-loop-right

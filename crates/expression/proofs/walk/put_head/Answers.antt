@@ -1,13 +1,11 @@
 -- `expression::walk::put_head` meets its contract: each answer follows the marks.
 use native.Mathlib.Omega.{arith}
 use mathlib.Core.Path.{◌≡◌, sym, ap, ◌∙◌}
-use mathlib.Core.Logic.{⊎_elim}
 use Prim.Native.Nat.{◌<◌}
 use mathlib.Core.Bool.{true, true≢false}
 use lib.ListN.{length, get_or}
 use Rattle.rows.proofs.Heads.{head-room}
 use Rattle.text.proofs.Fill.{emitted-nothing, emitted-same}
-use borrow.Author.Rules.{rules}
 use Rattle.expression.proofs.Heads.{head_open, bracket_over_term, bracket_over_none, variable_over, literal_against_bracket, second-literal, first_literal_only}
 use Rattle.expression.proofs.walk.put_head.Goals as goal
 use Rattle.expression.proofs.walk.put_head.Goals.{then-swapped+else-n-lt4, else-swapped}

@@ -1,5 +1,4 @@
 -- `image::number::read16` meets its contract. Assumes nothing.
-use borrow.Author.Rules.{rules}
 use Rattle.program.specs.Bytes.{get16}
 use native.Mathlib.Omega.{arith}
 use Rattle.image.proofs.number.read16.Goals as goal

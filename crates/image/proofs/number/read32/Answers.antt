@@ -1,5 +1,4 @@
 -- `image::number::read32` meets its contract. Assumes nothing.
-use borrow.Author.Rules.{rules}
 use Rattle.program.specs.Bytes.{get32}
 use native.Mathlib.Omega.{arith}
 use Rattle.image.proofs.number.read32.Goals as goal

@@ -1,6 +1,5 @@
 -- `image::number::span_at` meets its contract. Assumes nothing.
 use Rattle.program.specs.Bytes.{get_span}
-use borrow.Author.Rules.{rules}
 use Rattle.image.proofs.number.span_at.Goals as goal
 
 pub returns : goal.returns

@@ -1,5 +1,4 @@
 -- `image::part::conditions_start` meets its contract. Assumes nothing.
-use borrow.Author.Rules.{rules}
 use native.Mathlib.Omega.{arith}
 use Rattle.image.proofs.Readings.{sentence-room, past-pattern}
 use Rattle.image.proofs.part.conditions_start.Goals as goal

@@ -2,7 +2,6 @@
 use Rattle.image.proofs.Skip.{fields-code, fields-span, fields-name, fields-none}
 use mathlib.Core.Logic.{inl, inr}
 use native.Mathlib.Omega.{arith}
-use borrow.Author.Rules.{rules}
 use Rattle.image.proofs.part.fields_of.Goals as goal
 
 pub returns-in-1 : goal.returns-in-1

@@ -1,8 +1,6 @@
 -- `image::part::function_count` meets its contract. Assumes nothing.
-use borrow.Author.Rules.{rules}
 use native.Mathlib.Omega.{arith}
-use mathlib.Core.Path.{◌≡◌, refl, sym, ap, ◌∙◌}
-use Prim.Native.Nat.{ℕ, ◌+◌, ◌-◌}
+use mathlib.Core.Path.{◌∙◌}
 use Rattle.program.proofs.Numbers.{bytes_of}
 use Rattle.image.proofs.Accepted.{accepted-long, accepted_function_count}
 use Rattle.image.proofs.part.function_count.Goals as goal

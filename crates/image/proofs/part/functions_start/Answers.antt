@@ -1,8 +1,5 @@
 -- `image::part::functions_start` meets its contract. Assumes nothing.
-use borrow.Author.Rules.{rules}
 use native.Mathlib.Omega.{arith}
-use mathlib.Core.Path.{◌≡◌, refl, sym, ap, ◌∙◌}
-use Prim.Native.Nat.{ℕ, ◌+◌, ◌-◌}
 use Rattle.program.proofs.Numbers.{bytes_of}
 use Rattle.image.proofs.Accepted.{accepted-long, accepted-within, accepted-functions}
 use Rattle.image.proofs.part.functions_start.Goals as goal

@@ -1,8 +1,7 @@
 -- `image::part::name_part` meets its contract. Assumes nothing.
-use borrow.Author.Rules.{rules}
 use native.Mathlib.Omega.{arith}
 use Rattle.image.proofs.Readings.{name-within, name-taken}
-use mathlib.Core.Path.{◌≡◌, ap}
+use mathlib.Core.Path.{ap}
 use Prim.Native.Nat.{ℕ, ◌+◌}
 use Rattle.image.proofs.part.name_part.Goals as goal
 

@@ -2,7 +2,6 @@
 use Rattle.image.proofs.Skip.{owed-one, owed-two, owed-less, owed_same}
 use mathlib.Core.Logic.{inl, inr}
 use native.Mathlib.Omega.{arith}
-use borrow.Author.Rules.{rules}
 use Rattle.image.proofs.part.owed_after.Goals as goal
 
 pub returns-in-7 : goal.returns-in-7

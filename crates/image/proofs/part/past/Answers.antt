@@ -1,8 +1,5 @@
-use Rattle.image.proofs.Skip.{Passed, passed_first, passed_next, passed_end, passed_done}
-use lib.ListN.{length}
-use Prim.Native.Nat.{◌+◌, ◌*◌, ◌-◌, ◌≤◌}
+use Rattle.image.proofs.Skip.{passed_first, passed_next, passed_end, passed_done}
 use native.Mathlib.Omega.{arith}
-use borrow.Author.Rules.{rules}
 use Rattle.image.proofs.part.past.Goals as goal
 
 pub loop-p-init : goal.loop-p-init

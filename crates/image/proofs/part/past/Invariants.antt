@@ -1,9 +1,7 @@
 -- `image::part::past` meets its contract. Assumes nothing.
-use Rattle.image.proofs.Skip.{Passed, passed_first, passed_next, passed_end, passed_done}
+use Rattle.image.proofs.Skip.{Passed}
 use lib.ListN.{length}
 use Prim.Native.Nat.{◌+◌, ◌*◌, ◌-◌, ◌≤◌}
-use native.Mathlib.Omega.{arith}
-use borrow.Author.Rules.{rules}
 use Rattle.image.proofs.part.past.Given as goal
 
 abbrev pub invariant-loop-p : goal.invariant-loop-p

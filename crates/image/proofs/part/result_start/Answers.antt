@@ -1,9 +1,5 @@
-use borrow.Author.Rules.{rules}
 use native.Mathlib.Omega.{arith}
-use Prim.Native.Nat.{ℕ, ◌-◌, ◌≤◌}
-use lib.ListN.{length}
-use Rattle.image.specs.Parts.{SentenceAt}
-use Rattle.image.proofs.Readings.{ConditionsFrom, from-room, from_next_room, from_next, from_end}
+use Rattle.image.proofs.Readings.{from-room, from_next_room, from_next, from_end}
 use Rattle.image.proofs.part.result_start.Goals as goal
 
 pub loop-p-init : goal.loop-p-init

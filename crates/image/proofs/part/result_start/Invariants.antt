@@ -1,10 +1,8 @@
 -- `image::part::result_start` meets its contract. Assumes nothing.
-use borrow.Author.Rules.{rules}
-use native.Mathlib.Omega.{arith}
-use Prim.Native.Nat.{ℕ, ◌-◌, ◌≤◌}
+use Prim.Native.Nat.{◌-◌, ◌≤◌}
 use lib.ListN.{length}
 use Rattle.image.specs.Parts.{SentenceAt}
-use Rattle.image.proofs.Readings.{ConditionsFrom, from-room, from_next_room, from_next, from_end}
+use Rattle.image.proofs.Readings.{ConditionsFrom}
 use Rattle.image.proofs.part.result_start.Given as goal
 
 abbrev pub invariant-loop-p : goal.invariant-loop-p

@@ -1,8 +1,5 @@
-use Rattle.image.proofs.Finding.{Walks, walk_start, walk_found, walk_sentence, walk_close, walk_end, walks_function, walks_within, walks_room}
-use lib.ListN.{length}
-use Prim.Native.Nat.{◌-◌, ◌≤◌}
+use Rattle.image.proofs.Finding.{walk_start, walk_found, walk_sentence, walk_close, walk_end, walks_function, walks_within, walks_room}
 use native.Mathlib.Omega.{arith}
-use borrow.Author.Rules.{rules}
 use Rattle.image.proofs.part.sentence_at.Goals as goal
 
 pub loop-p-init : goal.loop-p-init

@@ -1,5 +1,4 @@
 -- `image::part::sentence_len` meets its contract. Assumes nothing.
-use borrow.Author.Rules.{rules}
 use native.Mathlib.Omega.{arith}
 use Rattle.image.proofs.Readings.{sentence-room, past-sentence}
 use Rattle.image.proofs.part.sentence_len.Goals as goal

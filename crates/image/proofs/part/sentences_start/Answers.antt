@@ -1,7 +1,5 @@
 -- `image::part::sentences_start` meets its contract. Assumes nothing.
-use borrow.Author.Rules.{rules}
-use native.Mathlib.Omega.{arith}
-use mathlib.Core.Path.{◌≡◌, ap}
+use mathlib.Core.Path.{ap}
 use Prim.Native.Nat.{ℕ, ◌+◌}
 use Rattle.image.proofs.Readings.{function_passed}
 use Rattle.image.proofs.part.sentences_start.Goals as goal

@@ -1,10 +1,10 @@
 -- `image::part::term_len` meets its contract. Assumes nothing.
 use borrow.Author.Rules.{rules}
 use native.Mathlib.Omega.{arith}
-use mathlib.Core.Path.{◌≡◌, sym, ap, ◌∙◌}
+use mathlib.Core.Path.{ap}
 use Prim.Native.Nat.{ℕ, ◌-◌}
 use Rattle.image.proofs.Readings.{terms-room, term_room, term_code, term_name, term_close, term_passes}
-use Rattle.image.proofs.Skip.{owed-few, owed-some}
+use Rattle.image.proofs.Skip.{owed-some}
 use Rattle.image.proofs.part.term_len.Goals as goal
 
 pub bounds-s-0 : goal.bounds-s-0

@@ -1,6 +1,4 @@
 -- `image::part::terms_len` meets its contract. Assumes nothing.
-use borrow.Author.Rules.{rules}
-use native.Mathlib.Omega.{arith}
 use Rattle.image.proofs.Readings.{terms-pass}
 use Rattle.image.proofs.part.terms_len.Goals as goal
 

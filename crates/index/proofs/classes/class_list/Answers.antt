@@ -1,4 +1,4 @@
-use Prim.Native.Nat.{◌+◌, ◌-◌, ◌≤◌, ◌<◌}
+use Prim.Native.Nat.{◌+◌, ◌≤◌, ◌<◌}
 use native.Mathlib.Omega.{arith}
 use mathlib.Core.List.{List}
 use lib.ListN.{length}
@@ -7,7 +7,7 @@ use Rattle.told.specs.Numbered.{Held}
 use Rattle.index.specs.First.{First}
 use Rattle.index.specs.Links.{is_repeat}
 use Rattle.index.specs.Lists.{ListAt}
-use Rattle.index.proofs.Classing.{Classing, classing_first, list-kept, link-below, at_element, at-among, at_next, classing-next, classing_end}
+use Rattle.index.proofs.Classing.{classing_first, list-kept, link-below, at_element, at-among, at_next, classing-next, classing_end}
 use Rattle.index.proofs.classes.class_list.Goals as goal
 
 pub loop-i-init : goal.loop-i-init

@@ -1,4 +1,4 @@
-use Prim.Native.Nat.{◌+◌, ◌-◌, ◌<◌}
+use Prim.Native.Nat.{◌+◌, ◌<◌}
 use native.Mathlib.Omega.{arith}
 use mathlib.Core.Path.{◌≡◌, sym, ◌∙◌}
 use mathlib.Core.List.{List}
@@ -7,7 +7,7 @@ use Rattle.program.specs.Syntax.{Name}
 use Rattle.patterns.specs.Configuration.{same_configuration}
 use Rattle.told.specs.Numbered.{Held}
 use Rattle.index.specs.Lists.{ListAt, Among}
-use Rattle.index.proofs.Alike.{Alike, among_below, call_of, reading_of, repeat-same, alike-first, alike_next, alike-found, alike_end}
+use Rattle.index.proofs.Alike.{among_below, call_of, reading_of, repeat-same, alike-first, alike_next, alike-found, alike_end}
 use Rattle.index.proofs.classes.first_alike.Goals as goal
 
 pub overflow_add-own : goal.overflow_add-own

@@ -1,14 +1,10 @@
 -- `index::classes::first_alike` meets its contract. Assumes nothing.
-use Prim.Native.Nat.{◌+◌, ◌-◌, ◌<◌}
-use native.Mathlib.Omega.{arith}
-use mathlib.Core.Path.{◌≡◌, sym, ◌∙◌}
+use Prim.Native.Nat.{◌-◌}
 use mathlib.Core.List.{List}
-use lib.ListN.{length}
 use Rattle.program.specs.Syntax.{Name}
-use Rattle.patterns.specs.Configuration.{same_configuration}
 use Rattle.told.specs.Numbered.{Held}
 use Rattle.index.specs.Lists.{ListAt, Among}
-use Rattle.index.proofs.Alike.{Alike, among_below, call_of, reading_of, repeat-same, alike-first, alike_next, alike-found, alike_end}
+use Rattle.index.proofs.Alike.{Alike}
 use Rattle.index.proofs.classes.first_alike.Given as goal
 
 abbrev pub invariant-loop-j : goal.invariant-loop-j

@@ -1,7 +1,6 @@
 -- `index::classes::site_argument` meets its contract. Assumes nothing.
 use Prim.Native.Nat.{◌+◌, ◌%◌, ◌≤◌, ◌<◌}
 use native.Mathlib.Omega.{arith}
-use borrow.Author.Rules.{rules}
 use lib.ListN.{length}
 use Rattle.program.specs.Encode.{put_terms}
 use Rattle.index.proofs.Arguments.{call-within, part_call, argument-within, argument-left}

@@ -1,7 +1,6 @@
 -- `index::dispatch::activates_a_carried_call` meets its contract. Assumes nothing.
 use mathlib.Core.Path.{sym, ◌∙◌}
 use Rattle.index.proofs.Carried.{carried_mu, carried_up}
-use borrow.Author.Rules.{rules}
 use Rattle.index.proofs.dispatch.activates_a_carried_call.Goals as goal
 
 -- GONE

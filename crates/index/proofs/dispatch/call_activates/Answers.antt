@@ -3,7 +3,6 @@ use native.Mathlib.Omega.{arith}
 use mathlib.Core.Path.{ap, ◌∙◌}
 use Rattle.meaning.specs.Dispatch.{activates_acarried_call}
 use Rattle.index.proofs.Sites.{call-within, call_part}
-use borrow.Author.Rules.{rules}
 use Rattle.index.proofs.dispatch.call_activates.Goals as goal
 
 pub slice_bounds-call_name-count : goal.slice_bounds-call_name-count

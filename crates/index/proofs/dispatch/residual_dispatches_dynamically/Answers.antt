@@ -1,10 +1,8 @@
-use Prim.Native.Nat.{◌+◌, ◌-◌, ◌<◌, ◌≤◌}
+use Prim.Native.Nat.{◌+◌, ◌<◌}
 use native.Mathlib.Omega.{arith}
 use mathlib.Core.Path.{◌≡◌, refl, sym, ap, ◌∙◌}
-use mathlib.Core.Bool.{Bool}
 use mathlib.Core.List.{List}
-use lib.ListN.{length, drop}
-use Rattle.meaning.specs.Lists.{any}
+use lib.ListN.{length}
 use Rattle.meaning.specs.Dispatch.{activates_acarried_call}
 use Rattle.told.specs.Numbered.{Held}
 use Rattle.index.specs.Tables.{SitesAt}

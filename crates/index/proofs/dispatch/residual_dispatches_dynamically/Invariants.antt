@@ -1,7 +1,6 @@
 -- `index::dispatch::residual_dispatches_dynamically` meets its contract. Assumes nothing.
-use Prim.Native.Nat.{◌+◌, ◌-◌, ◌<◌, ◌≤◌}
-use native.Mathlib.Omega.{arith}
-use mathlib.Core.Path.{◌≡◌, refl, sym, ap, ◌∙◌}
+use Prim.Native.Nat.{◌-◌, ◌≤◌}
+use mathlib.Core.Path.{◌≡◌}
 use mathlib.Core.Bool.{Bool}
 use mathlib.Core.List.{List}
 use lib.ListN.{length, drop}
@@ -9,9 +8,6 @@ use Rattle.meaning.specs.Lists.{any}
 use Rattle.meaning.specs.Dispatch.{activates_acarried_call}
 use Rattle.told.specs.Numbered.{Held}
 use Rattle.index.specs.Tables.{SitesAt}
-use Rattle.index.proofs.Entries.{Element, element_of}
-use Rattle.index.proofs.Sites.{call-there}
-use Rattle.index.proofs.Any.{any_found, any_next, any-end}
 use Rattle.index.proofs.dispatch.residual_dispatches_dynamically.Given as goal
 
 abbrev pub test : Held → Bool

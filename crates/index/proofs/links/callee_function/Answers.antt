@@ -5,7 +5,6 @@ use Rattle.program.specs.Syntax.{Name}
 use Rattle.index.specs.First.{First}
 use Rattle.index.specs.Bucket.{is_named}
 use Rattle.index.proofs.Sites.{call-within, call_part}
-use borrow.Author.Rules.{rules}
 use Rattle.index.proofs.links.callee_function.Goals as goal
 
 pub slice_bounds-call_name-count : goal.slice_bounds-call_name-count

@@ -1,7 +1,6 @@
 -- `index::links::is_plain` meets its contract. Assumes nothing.
 use native.Mathlib.Omega.{arith}
 use Rattle.index.proofs.Sites.{call-within, call_part, argument_part}
-use borrow.Author.Rules.{rules}
 use Rattle.index.proofs.links.is_plain.Goals as goal
 
 pub slice_bounds-x-count : goal.slice_bounds-x-count

@@ -3,7 +3,6 @@ use native.Mathlib.Omega.{arith}
 use Rattle.index.proofs.Sites.{call-there}
 use Rattle.index.proofs.Linked.{linked_none, linked_found}
 use Rattle.index.proofs.Preserved.{links-same, pushed-links}
-use borrow.Author.Rules.{rules}
 use Rattle.index.proofs.links.link_site.Goals as goal
 
 pub overflow_add-c : goal.overflow_add-c

@@ -1,11 +1,7 @@
-use Prim.Native.Nat.{◌+◌, ◌-◌, ◌≤◌}
+use Prim.Native.Nat.{◌+◌, ◌-◌}
 use native.Mathlib.Omega.{arith}
 use mathlib.Core.Path.{◌≡◌, subst}
-use mathlib.Core.List.{List}
-use Rattle.program.specs.Syntax.{Function}
-use Rattle.told.specs.Numbered.{Held}
 use Rattle.index.specs.Links.{FirstsHeaded, Chained}
-use Rattle.index.specs.Linking.{Indexed, LinksOnly}
 use Rattle.index.proofs.Linked.{firsts-none, chained-none}
 use Rattle.index.proofs.Preserved.{columns-after, indexed-after, some_filed_after, some_sites_after, links-same, links_then}
 use Rattle.index.proofs.links.link_sites.Goals as goal

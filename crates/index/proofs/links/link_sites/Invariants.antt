@@ -1,14 +1,10 @@
 -- `index::links::link_sites` meets its contract. Assumes nothing.
-use Prim.Native.Nat.{◌+◌, ◌-◌, ◌≤◌}
-use native.Mathlib.Omega.{arith}
-use mathlib.Core.Path.{◌≡◌, subst}
+use Prim.Native.Nat.{◌≤◌}
 use mathlib.Core.List.{List}
 use Rattle.program.specs.Syntax.{Function}
 use Rattle.told.specs.Numbered.{Held}
 use Rattle.index.specs.Links.{FirstsHeaded, Chained}
 use Rattle.index.specs.Linking.{Indexed, LinksOnly}
-use Rattle.index.proofs.Linked.{firsts-none, chained-none}
-use Rattle.index.proofs.Preserved.{columns-after, indexed-after, some_filed_after, some_sites_after, links-same, links_then}
 use Rattle.index.proofs.links.link_sites.Given as goal
 
 abbrev pub invariant-loop-i : goal.invariant-loop-i

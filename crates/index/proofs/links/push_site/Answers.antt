@@ -2,7 +2,6 @@
 use native.Mathlib.Omega.{arith}
 use lib.ListN.{length-set}
 use Rattle.index.proofs.Linked.{pushed}
-use borrow.Author.Rules.{rules}
 use Rattle.index.proofs.links.push_site.Goals as goal
 
 pub bounds-work-head-2 : goal.bounds-work-head-2

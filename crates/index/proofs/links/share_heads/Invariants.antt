@@ -1,20 +1,13 @@
 -- `index::links::share_heads` meets its contract. Assumes nothing.
-use Prim.Native.Nat.{ℕ, ◌+◌, ◌-◌, ◌*◌, ◌%◌, ◌<◌, ◌≤◌}
-use native.Mathlib.Omega.{arith}
-use mathlib.Core.Path.{◌≡◌, refl, subst}
+use Prim.Native.Nat.{◌+◌, ◌-◌, ◌*◌, ◌≤◌}
 use mathlib.Core.List.{List}
-use lib.ListN.{length, get_or, drop}
-use Rattle.program.specs.Syntax.{Name, Function}
-use Rattle.image.specs.Parts.{FunctionAt}
+use Rattle.program.specs.Syntax.{Function}
 use Rattle.told.specs.Numbered.{Held}
-use Rattle.index.specs.First.{First}
 use Rattle.index.specs.Tables.{Apart}
 use Rattle.index.specs.Tabled.{Tabled}
-use Rattle.index.specs.Bucket.{is_named, Filed}
+use Rattle.index.specs.Bucket.{Filed}
 use Rattle.index.specs.Links.{FirstsHeaded}
-use Rattle.index.proofs.Entries.{apart_set, apart-same, tabled-there, tabled-stands, tabled-name}
-use Rattle.index.proofs.Preserved.{tabled-apart, filed-apart, some_filed_apart}
-use Rattle.index.proofs.Shared.{Sharing, sharing_first, sharing_end, sharing_next, own_first}
+use Rattle.index.proofs.Shared.{Sharing}
 use Rattle.index.proofs.links.share_heads.Given as goal
 
 abbrev pub invariant-loop-f : goal.invariant-loop-f

@@ -1,6 +1,5 @@
 -- `index::links::with_head` meets its contract. Assumes nothing.
 use mathlib.Core.Path.{refl}
-use borrow.Author.Rules.{rules}
 use Rattle.index.proofs.Heads.{replaced_plain, replaced_other}
 use Rattle.index.proofs.links.with_head.Goals as goal
 

@@ -1,8 +1,6 @@
-use Prim.Native.Nat.{ℕ, ◌-◌, ◌<◌, ◌≤◌}
+use Prim.Native.Nat.{◌<◌}
 use native.Mathlib.Omega.{arith}
-use mathlib.Core.Path.{◌≡◌}
-use lib.ListN.{length, get_or}
-use Rattle.index.specs.Tables.{Apart}
+use lib.ListN.{length}
 use Rattle.index.proofs.Entries.{apart_set, apart-same, filled_next}
 use Rattle.index.proofs.listing.fill.Goals as goal
 

@@ -1,10 +1,8 @@
 -- `index::listing::fill` meets its contract. Assumes nothing.
 use Prim.Native.Nat.{ℕ, ◌-◌, ◌<◌, ◌≤◌}
-use native.Mathlib.Omega.{arith}
 use mathlib.Core.Path.{◌≡◌}
-use lib.ListN.{length, get_or}
+use lib.ListN.{get_or}
 use Rattle.index.specs.Tables.{Apart}
-use Rattle.index.proofs.Entries.{apart_set, apart-same, filled_next}
 use Rattle.index.proofs.listing.fill.Given as goal
 
 abbrev pub invariant-loop-k : goal.invariant-loop-k

@@ -1,10 +1,9 @@
-use Prim.Native.Nat.{◌+◌, ◌-◌, ◌<◌, ◌≤◌}
+use Prim.Native.Nat.{◌+◌, ◌<◌, ◌≤◌}
 use native.Mathlib.Omega.{arith}
-use lib.ListN.{length, drop}
-use Rattle.image.specs.Parts.{FunctionsAt}
+use lib.ListN.{length}
 use Rattle.restrictions.proofs.Readings.{sentence-there}
 use Rattle.restrictions.proofs.Places.{place-part, place-fits, place-sentence}
-use Rattle.index.proofs.Listed.{Listing, listing-first, listed-functions, listed-sentences, listed-fresh, listing-close, listing-small, function-room, listing-function, sentence-below, listing-sentence, sentence-fits}
+use Rattle.index.proofs.Listed.{listing-first, listed-functions, listed-sentences, listed-fresh, listing-close, listing-small, function-room, listing-function, sentence-below, listing-sentence, sentence-fits}
 use Rattle.index.proofs.listing.list_functions.Goals as goal
 
 pub loop-p-init : goal.loop-p-init

@@ -1,11 +1,8 @@
 -- `index::listing::list_functions` meets its contract. Assumes nothing.
-use Prim.Native.Nat.{◌+◌, ◌-◌, ◌<◌, ◌≤◌}
-use native.Mathlib.Omega.{arith}
+use Prim.Native.Nat.{◌-◌, ◌≤◌}
 use lib.ListN.{length, drop}
 use Rattle.image.specs.Parts.{FunctionsAt}
-use Rattle.restrictions.proofs.Readings.{sentence-there}
-use Rattle.restrictions.proofs.Places.{place-part, place-fits, place-sentence}
-use Rattle.index.proofs.Listed.{Listing, listing-first, listed-functions, listed-sentences, listed-fresh, listing-close, listing-small, function-room, listing-function, sentence-below, listing-sentence, sentence-fits}
+use Rattle.index.proofs.Listed.{Listing}
 use Rattle.index.proofs.listing.list_functions.Given as goal
 
 abbrev pub invariant-loop-p : goal.invariant-loop-p

@@ -1,10 +1,7 @@
-use Prim.Native.Nat.{◌-◌, ◌%◌, ◌<◌, ◌≤◌}
+use Prim.Native.Nat.{◌%◌}
 use native.Mathlib.Omega.{arith}
 use native.Mathlib.Nat.{mod-lt}
-use mathlib.Core.Path.{◌≡◌, refl, sym, ap, ◌∙◌}
-use lib.ListN.{length, drop}
-use Rattle.patterns.specs.Names.{caseless}
-use Rattle.index.specs.Bucket.{hash_from}
+use mathlib.Core.Path.{refl, sym, ap, ◌∙◌}
 use Rattle.index.proofs.Buckets.{hash_next, hash_end, bucket-is}
 use Rattle.index.proofs.names.bucket_of.Goals as goal
 

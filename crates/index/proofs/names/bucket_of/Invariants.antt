@@ -1,12 +1,9 @@
 -- `index::names::bucket_of` meets its contract. Assumes nothing.
-use Prim.Native.Nat.{◌-◌, ◌%◌, ◌<◌, ◌≤◌}
-use native.Mathlib.Omega.{arith}
-use native.Mathlib.Nat.{mod-lt}
-use mathlib.Core.Path.{◌≡◌, refl, sym, ap, ◌∙◌}
+use Prim.Native.Nat.{◌-◌, ◌<◌, ◌≤◌}
+use mathlib.Core.Path.{◌≡◌}
 use lib.ListN.{length, drop}
 use Rattle.patterns.specs.Names.{caseless}
 use Rattle.index.specs.Bucket.{hash_from}
-use Rattle.index.proofs.Buckets.{hash_next, hash_end, bucket-is}
 use Rattle.index.proofs.names.bucket_of.Given as goal
 
 abbrev pub invariant-loop-i : goal.invariant-loop-i

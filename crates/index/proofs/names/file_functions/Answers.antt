@@ -1,12 +1,8 @@
-use Prim.Native.Nat.{ℕ, ◌+◌, ◌-◌, ◌%◌, ◌<◌, ◌≤◌}
+use Prim.Native.Nat.{◌+◌, ◌-◌, ◌%◌, ◌<◌}
 use native.Mathlib.Omega.{arith}
 use mathlib.Core.Path.{◌≡◌, ap, subst, ◌∙◌}
-use mathlib.Core.List.{List}
 use lib.ListN.{length, get_or, drop, length-set}
-use Rattle.program.specs.Syntax.{Function}
 use Rattle.image.specs.Parts.{FunctionAt}
-use Rattle.index.specs.Tables.{Apart}
-use Rattle.index.specs.Tabled.{Tabled}
 use Rattle.index.specs.Bucket.{bucket_of, Filed}
 use Rattle.index.proofs.Entries.{apart_set, apart-same, tabled-there, tabled-stands, tabled-name}
 use Rattle.index.proofs.Buckets.{filed-none, filed-more}

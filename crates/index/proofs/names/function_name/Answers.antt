@@ -1,6 +1,5 @@
 -- `index::names::function_name` meets its contract. Assumes nothing.
 use native.Mathlib.Omega.{arith}
-use borrow.Author.Rules.{rules}
 use Rattle.index.proofs.Functions.{function-room, name-at}
 use Rattle.index.proofs.names.function_name.Goals as goal
 

@@ -2,7 +2,6 @@
 use Prim.Native.Nat.{◌+◌}
 use native.Mathlib.Omega.{arith}
 use mathlib.Core.Path.{refl}
-use borrow.Author.Rules.{rules}
 use Rattle.index.proofs.table.class_of.Goals as goal
 
 pub overflow_cast-result : goal.overflow_cast-result

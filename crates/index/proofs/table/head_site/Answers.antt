@@ -1,11 +1,10 @@
 -- `index::table::head_site` meets its contract. Assumes nothing.
-use Prim.Native.Nat.{ℕ, ◌+◌, ◌<◌}
+use Prim.Native.Nat.{◌+◌, ◌<◌}
 use native.Mathlib.Omega.{arith}
 use mathlib.Core.Path.{sym, ap}
 use mathlib.Core.Bool.{Bool}
 use lib.ListN.{get_or}
 use Rattle.index.specs.Links.{list_head}
-use borrow.Author.Rules.{rules}
 use Rattle.index.proofs.table.head_site.Goals as goal
 
 pub overflow_cast-result-else-plain : goal.overflow_cast-result-else-plain

@@ -1,12 +1,6 @@
-use Prim.Native.Nat.{ℕ, ◌-◌}
 use native.Mathlib.Omega.{arith}
 use mathlib.Core.Path.{sym, ◌∙◌}
-use mathlib.Core.List.{List}
-use Rattle.meaning.specs.Match.{Bindings}
-use Rattle.meaning.proofs.Searching.{Choice}
-use Rattle.matching.specs.Bindings.{RunAt}
-use Rattle.matching.specs.Choices.{ChoicesAt}
-use Rattle.matching.proofs.Choosing.{Looking, looking_first, look_here, look_none, look_more, look_found, readable}
+use Rattle.matching.proofs.Choosing.{looking_first, look_here, look_none, look_more, look_found, readable}
 use Rattle.matching.proofs.back.newest_choice.Goals as goal
 
 pub loop-at-init : goal.loop-at-init

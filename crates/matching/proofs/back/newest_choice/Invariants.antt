@@ -1,13 +1,11 @@
 -- `matching::back::newest_choice` meets its contract. The invariant: the choices left have the matches that all of them have.
 use Prim.Native.Nat.{ℕ, ◌-◌}
-use native.Mathlib.Omega.{arith}
-use mathlib.Core.Path.{sym, ◌∙◌}
 use mathlib.Core.List.{List}
 use Rattle.meaning.specs.Match.{Bindings}
 use Rattle.meaning.proofs.Searching.{Choice}
 use Rattle.matching.specs.Bindings.{RunAt}
 use Rattle.matching.specs.Choices.{ChoicesAt}
-use Rattle.matching.proofs.Choosing.{Looking, looking_first, look_here, look_none, look_more, look_found, readable}
+use Rattle.matching.proofs.Choosing.{Looking}
 use Rattle.matching.proofs.back.newest_choice.Given as goal
 
 abbrev pub invariant-loop-at : goal.invariant-loop-at

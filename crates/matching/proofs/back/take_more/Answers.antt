@@ -1,6 +1,5 @@
 -- `matching::back::take_more` meets its contract. Assumes nothing.
 use native.Mathlib.Omega.{arith}
-use borrow.Author.Rules.{rules}
 use Rattle.matching.proofs.Extending.{more-short, level_of, variable_of, took_so}
 use Rattle.matching.proofs.back.take_more.Goals as goal
 

@@ -1,5 +1,4 @@
 -- `matching::bindings::extend_binding` meets its contract. Assumes nothing.
-use borrow.Author.Rules.{rules}
 use Rattle.matching.proofs.Held.{two-more}
 use Rattle.matching.proofs.bindings.extend_binding.Goals as goal
 

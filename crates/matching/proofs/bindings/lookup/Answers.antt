@@ -1,13 +1,11 @@
-use Prim.Native.Nat.{ℕ, ◌-◌}
+use Prim.Native.Nat.{ℕ}
 use native.Mathlib.Omega.{arith}
 use mathlib.Core.Path.{sym, subst}
-use borrow.Author.Rules.{rules}
 use lib.ListN.{drop}
 use Rattle.program.specs.Bytes.{get16}
 use Rattle.symbols.proofs.Parts.{part_rest}
-use Rattle.meaning.specs.Match.{Bindings}
-use Rattle.matching.specs.Bindings.{VariableAt, RunAt}
-use Rattle.matching.proofs.Variables.{place-within, Sought, sought_first, at_newest, sought_found, sought_more, sought_none, told_at}
+use Rattle.matching.specs.Bindings.{VariableAt}
+use Rattle.matching.proofs.Variables.{place-within, sought_first, at_newest, sought_found, sought_more, sought_none, told_at}
 use Rattle.matching.proofs.bindings.lookup.Goals as goal
 
 pub loop-at-init : goal.loop-at-init

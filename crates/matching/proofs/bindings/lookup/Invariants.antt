@@ -1,14 +1,9 @@
 -- `matching::bindings::lookup` meets its contract. The invariant: the bindings left tell the variable as all of them do.
-use Prim.Native.Nat.{ℕ, ◌-◌}
-use native.Mathlib.Omega.{arith}
-use mathlib.Core.Path.{sym, subst}
-use borrow.Author.Rules.{rules}
+use Prim.Native.Nat.{◌-◌}
 use lib.ListN.{drop}
-use Rattle.program.specs.Bytes.{get16}
-use Rattle.symbols.proofs.Parts.{part_rest}
 use Rattle.meaning.specs.Match.{Bindings}
 use Rattle.matching.specs.Bindings.{VariableAt, RunAt}
-use Rattle.matching.proofs.Variables.{place-within, Sought, sought_first, at_newest, sought_found, sought_more, sought_none, told_at}
+use Rattle.matching.proofs.Variables.{Sought}
 use Rattle.matching.proofs.bindings.lookup.Given as goal
 
 abbrev pub invariant-loop-at : goal.invariant-loop-at

@@ -1,6 +1,5 @@
 -- `matching::bindings::put_binding` meets its contract. Assumes nothing.
 use native.Mathlib.Omega.{arith}
-use borrow.Author.Rules.{rules}
 use Rattle.program.specs.Bytes.{put16}
 use Rattle.matching.proofs.Held.{binding_emitted}
 use Rattle.matching.proofs.bindings.put_binding.Goals as goal

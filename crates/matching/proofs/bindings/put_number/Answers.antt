@@ -1,5 +1,4 @@
 -- `matching::bindings::put_number` meets its contract. Assumes nothing.
-use borrow.Author.Rules.{rules}
 use Rattle.matching.proofs.Held.{number-emitted}
 use Rattle.matching.proofs.bindings.put_number.Goals as goal
 

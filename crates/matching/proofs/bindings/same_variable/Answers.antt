@@ -1,7 +1,6 @@
 -- `matching::bindings::same_variable` meets its contract. Assumes nothing.
 use native.Mathlib.Omega.{arith}
 use mathlib.Core.Path.{ap₂, ◌∙◌}
-use borrow.Author.Rules.{rules}
 use Rattle.patterns.specs.Names.{same_name}
 use Rattle.symbols.proofs.Parts.{part_rest}
 use Rattle.matching.proofs.Variables.{variable-room, name-at, name-is, kinds_differ, kinds_same}

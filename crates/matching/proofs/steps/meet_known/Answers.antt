@@ -1,7 +1,6 @@
 -- `matching::steps::meet_known` meets its contract: the value's front is the variable's value, or nothing fits. Assumes nothing.
 use native.Mathlib.Omega.{arith}
 use mathlib.Core.Path.{subst}
-use borrow.Author.Rules.{rules}
 use Rattle.meaning.proofs.Every.{Opt}
 use Rattle.meaning.proofs.Fronts.{rest_after}
 use Rattle.meaning.proofs.Matches.{value-fits}

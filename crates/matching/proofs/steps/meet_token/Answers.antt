@@ -1,6 +1,5 @@
 -- `matching::steps::meet_token` meets its contract: both sides' first tokens decide. Assumes nothing.
 use native.Mathlib.Omega.{arith}
-use borrow.Author.Rules.{rules}
 use Rattle.symbols.proofs.Parts.{part_rest}
 use Rattle.values.proofs.Bytes.{room}
 use Rattle.values.proofs.Turns.{part_there, part_length}

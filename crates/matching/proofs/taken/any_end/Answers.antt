@@ -1,6 +1,5 @@
 -- `matching::taken::any_end` meets its contract. Assumes nothing.
 use native.Mathlib.Omega.{arith}
-use borrow.Author.Rules.{rules}
 use Rattle.matching.proofs.Taking.{variable-at, level-here}
 use Rattle.matching.proofs.Splitting.{behind-nil, behind-some, behind-there, takes_all, takes_nothing, value-within}
 use Rattle.matching.proofs.taken.any_end.Goals as goal

@@ -1,6 +1,5 @@
 -- `matching::taken::bind_new` meets its contract. Assumes nothing.
 use mathlib.Core.Path.{refl, subst}
-use borrow.Author.Rules.{rules}
 use Rattle.matching.specs.Takes.{TakesUntil}
 use Rattle.matching.proofs.Taking.{variable-at}
 use Rattle.matching.proofs.Bound.{binds}

@@ -1,7 +1,5 @@
 -- `matching::taken::one_end` meets its contract. Assumes nothing.
 use native.Mathlib.Omega.{arith}
-use mathlib.Core.Logic.{⊎_elim}
-use borrow.Author.Rules.{rules}
 use Rattle.matching.proofs.Meeting.{pattern-there}
 use Rattle.matching.proofs.Taking.{level-here}
 use Rattle.matching.proofs.Splitting.{none-at_end, none_at_close, none_at_bracket, some-value, takes_one, value-within}

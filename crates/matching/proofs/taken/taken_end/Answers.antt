@@ -1,6 +1,5 @@
 -- `matching::taken::taken_end` meets its contract. Assumes nothing.
 use native.Mathlib.Omega.{arith}
-use borrow.Author.Rules.{rules}
 use Rattle.matching.proofs.Meeting.{pattern-there}
 use Rattle.matching.proofs.Splitting.{is_any, is_one}
 use Rattle.matching.proofs.taken.taken_end.Goals as goal

@@ -1,9 +1,9 @@
 use native.Mathlib.Omega.{arith}
-use mathlib.Core.Path.{◌≡◌, refl, ap, ◌∙◌}
+use mathlib.Core.Path.{refl, ap, ◌∙◌}
 use mathlib.Core.List.{List}
-use Prim.Native.Nat.{ℕ, ◌+◌, ◌-◌, ◌≤◌}
+use Prim.Native.Nat.{ℕ, ◌+◌}
 use native.Mathlib.Nat.{le_antisymm}
-use lib.ListN.{length, length-set, get_or, set, drop}
+use lib.ListN.{length-set, get_or, set, drop}
 use lib.Seq.{paste, paste-zero}
 use Rattle.output.proofs.Writing.{copy_turn}
 use Rattle.output.proofs.bytes.copy_bytes.Goals as goal

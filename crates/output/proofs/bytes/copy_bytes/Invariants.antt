@@ -1,12 +1,8 @@
 -- `output::bytes::copy_bytes` meets its contract. Assumes nothing.
-use native.Mathlib.Omega.{arith}
-use mathlib.Core.Path.{◌≡◌, refl, ap, ◌∙◌}
-use mathlib.Core.List.{List}
-use Prim.Native.Nat.{ℕ, ◌+◌, ◌-◌, ◌≤◌}
-use native.Mathlib.Nat.{le_antisymm}
-use lib.ListN.{length, length-set, get_or, set, drop}
-use lib.Seq.{paste, paste-zero}
-use Rattle.output.proofs.Writing.{copy_turn}
+use mathlib.Core.Path.{◌≡◌}
+use Prim.Native.Nat.{◌-◌, ◌≤◌}
+use lib.ListN.{length, drop}
+use lib.Seq.{paste}
 use Rattle.output.proofs.bytes.copy_bytes.Given as goal
 
 abbrev pub invariant-loop-i : goal.invariant-loop-i

@@ -2,7 +2,6 @@
 use native.Mathlib.Omega.{arith}
 use lib.ListN.{length-set}
 use Rattle.output.proofs.Writing.{stored16}
-use borrow.Author.Rules.{rules}
 use Rattle.output.proofs.bytes.write16.Goals as goal
 
 pub bounds-out-at-2 : goal.bounds-out-at-2

@@ -1,7 +1,6 @@
 -- `output::bytes::write32` meets its contract. Assumes nothing.
 use native.Mathlib.Omega.{arith}
 use Rattle.output.proofs.Writing.{stored32}
-use borrow.Author.Rules.{rules}
 use Rattle.output.proofs.bytes.write32.Goals as goal
 
 pub returns : goal.returns

@@ -1,12 +1,8 @@
 use native.Mathlib.Omega.{arith}
-use mathlib.Core.Path.{◌≡◌, refl, ◌∙◌}
-use Prim.Native.Nat.{ℕ, ◌-◌, ◌≤◌}
+use mathlib.Core.Path.{◌∙◌}
 use Rattle.index.specs.Layout.{marks, calls}
-use Rattle.index.specs.Tables.{Apart}
-use Rattle.told.specs.Kept.{is_kept}
-use Rattle.cleaning.specs.Indexed.{fell_of}
 use Rattle.index.proofs.Entries.{apart-same}
-use Rattle.output.proofs.MarkPart.{marked, marks-apart, apart_then, left_to, keep_ready, left-start, left-turn, left-done}
+use Rattle.output.proofs.MarkPart.{marks-apart, apart_then, keep_ready, left-start, left-turn, left-done}
 use Rattle.output.proofs.left.mark_left.Goals as goal
 
 pub marks_of-from-requires : goal.marks_of-from-requires

@@ -1,13 +1,11 @@
 -- `output::left::mark_left` meets its contract. Assumes nothing.
-use native.Mathlib.Omega.{arith}
-use mathlib.Core.Path.{◌≡◌, refl, ◌∙◌}
+use mathlib.Core.Path.{◌≡◌}
 use Prim.Native.Nat.{ℕ, ◌-◌, ◌≤◌}
 use Rattle.index.specs.Layout.{marks, calls}
 use Rattle.index.specs.Tables.{Apart}
 use Rattle.told.specs.Kept.{is_kept}
 use Rattle.cleaning.specs.Indexed.{fell_of}
-use Rattle.index.proofs.Entries.{apart-same}
-use Rattle.output.proofs.MarkPart.{marked, marks-apart, apart_then, left_to, keep_ready, left-start, left-turn, left-done}
+use Rattle.output.proofs.MarkPart.{marked, left_to}
 use Rattle.output.proofs.left.mark_left.Given as goal
 
 abbrev pub invariant-loop-s : goal.invariant-loop-s

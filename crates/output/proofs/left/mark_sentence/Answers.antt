@@ -1,6 +1,5 @@
 -- `output::left::mark_sentence` meets its contract. Assumes nothing.
 use native.Mathlib.Omega.{arith}
-use borrow.Author.Rules.{rules}
 use Rattle.output.proofs.MarkPart.{turn-fell, turn_stays}
 use Rattle.output.proofs.left.mark_sentence.Goals as goal
 

@@ -1,7 +1,6 @@
 -- `output::mark::clear_mark` meets its contract. Assumes nothing.
 use mathlib.Core.Path.{refl}
 use Rattle.output.proofs.Marks.{kept_out, mark_cleared, mark-other}
-use borrow.Author.Rules.{rules}
 use Rattle.output.proofs.mark.clear_mark.Goals as goal
 
 pub returns-then-word-marks : goal.returns-then-word-marks

@@ -1,8 +1,7 @@
 use native.Mathlib.Omega.{arith}
-use mathlib.Core.Path.{◌≡◌, ap, ◌∙◌}
-use Prim.Native.Nat.{ℕ, ◌*◌, ◌-◌, ◌≤◌}
+use mathlib.Core.Path.{ap, ◌∙◌}
+use Prim.Native.Nat.{ℕ, ◌*◌}
 use native.Mathlib.Nat.{le_antisymm}
-use lib.ListN.{length}
 use Rattle.told.specs.Kept.{is_kept}
 use Rattle.output.specs.Marks.{kept_count}
 use Rattle.output.proofs.Ones.{words_turn, words_end, word_count, count_le, none_yet}

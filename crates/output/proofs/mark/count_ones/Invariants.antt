@@ -1,12 +1,9 @@
 -- `output::mark::count_ones` meets its contract. Assumes nothing.
-use native.Mathlib.Omega.{arith}
-use mathlib.Core.Path.{◌≡◌, ap, ◌∙◌}
-use Prim.Native.Nat.{ℕ, ◌*◌, ◌-◌, ◌≤◌}
-use native.Mathlib.Nat.{le_antisymm}
+use mathlib.Core.Path.{◌≡◌}
+use Prim.Native.Nat.{◌*◌, ◌-◌, ◌≤◌}
 use lib.ListN.{length}
 use Rattle.told.specs.Kept.{is_kept}
 use Rattle.output.specs.Marks.{kept_count}
-use Rattle.output.proofs.Ones.{words_turn, words_end, word_count, count_le, none_yet}
 use Rattle.output.proofs.mark.count_ones.Given as goal
 
 abbrev pub invariant-loop-j : goal.invariant-loop-j

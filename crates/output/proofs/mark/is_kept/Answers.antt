@@ -2,7 +2,6 @@
 use mathlib.Core.Path.{refl, sym}
 use Rattle.told.specs.Kept.{is_kept}
 use Rattle.output.proofs.Marks.{kept_out}
-use borrow.Author.Rules.{rules}
 use Rattle.output.proofs.mark.is_kept.Goals as goal
 
 pub returns-then-word-marks : goal.returns-then-word-marks

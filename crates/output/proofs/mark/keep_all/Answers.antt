@@ -1,9 +1,6 @@
 use native.Mathlib.Omega.{arith}
-use mathlib.Core.Path.{◌≡◌, refl, ◌∙◌}
-use Prim.Native.Nat.{ℕ, ◌*◌, ◌-◌, ◌≤◌, ◌<◌}
-use lib.ListN.{length, length-set}
-use lib.Dec.{ltb}
-use Rattle.told.specs.Kept.{is_kept}
+use mathlib.Core.Path.{refl, ◌∙◌}
+use lib.ListN.{length-set}
 use Rattle.output.proofs.Marks.{marks-turn, marks-end}
 use Rattle.output.proofs.mark.keep_all.Goals as goal
 

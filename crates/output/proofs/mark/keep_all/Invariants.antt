@@ -1,11 +1,9 @@
 -- `output::mark::keep_all` meets its contract. Assumes nothing.
-use native.Mathlib.Omega.{arith}
-use mathlib.Core.Path.{◌≡◌, refl, ◌∙◌}
+use mathlib.Core.Path.{◌≡◌}
 use Prim.Native.Nat.{ℕ, ◌*◌, ◌-◌, ◌≤◌, ◌<◌}
-use lib.ListN.{length, length-set}
+use lib.ListN.{length}
 use lib.Dec.{ltb}
 use Rattle.told.specs.Kept.{is_kept}
-use Rattle.output.proofs.Marks.{marks-turn, marks-end}
 use Rattle.output.proofs.mark.keep_all.Given as goal
 
 abbrev pub invariant-loop-j : goal.invariant-loop-j

@@ -1,6 +1,5 @@
 -- `output::mark::without_bit` meets its contract. Assumes nothing.
 use Rattle.output.proofs.Marks.{bit-within, bit_cleared, bit_clear, one_shifted}
-use borrow.Author.Rules.{rules}
 use Rattle.output.proofs.mark.without_bit.Goals as goal
 
 pub overflow_sub-result : goal.overflow_sub-result

@@ -2,7 +2,6 @@
 use Prim.Native.Nat.{◌-◌}
 use lib.Pow.{pow_pos}
 use Rattle.output.proofs.Marks.{one_shifted, below_none, below-some, below_all}
-use borrow.Author.Rules.{rules}
 use Rattle.output.proofs.mark.word_below.Goals as goal
 
 pub returns-then-n-first : goal.returns-then-n-first

@@ -3,7 +3,6 @@ use mathlib.Core.Path.{sym, ◌∙◌}
 use mathlib.Core.Bool.{true, false}
 use Rattle.told.specs.Kept.{is_kept}
 use Rattle.output.proofs.Items.{own-kept, other-kept}
-use borrow.Author.Rules.{rules}
 use Rattle.output.proofs.writer.kept_one.Goals as goal
 
 pub returns-then-is_kept : goal.returns-then-is_kept

@@ -1,6 +1,5 @@
 -- `output::writer::sentence_one` meets its contract. Assumes nothing.
 use Rattle.output.proofs.Items.{own-one, other-one}
-use borrow.Author.Rules.{rules}
 use Rattle.output.proofs.writer.sentence_one.Goals as goal
 
 pub returns-then-s-eq10 : goal.returns-then-s-eq10

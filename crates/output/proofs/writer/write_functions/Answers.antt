@@ -4,11 +4,11 @@ use mathlib.Core.Bool.{Bool}
 use mathlib.Core.List.{List}
 use Prim.Native.Nat.{ℕ, ◌+◌, ◌-◌, ◌≤◌, ◌<◌}
 use lib.ListN.{length, take, drop, length-drop}
-use Rattle.image.specs.Parts.{FunctionsAt, Passes}
+use Rattle.image.specs.Parts.{Passes}
 use Rattle.symbols.proofs.Parts.{part_rest}
 use Rattle.told.specs.Kept.{is_kept}
 use Rattle.output.specs.Items.{Item, after}
-use Rattle.output.proofs.Walking.{Writes, Does, writes_start, writes_turn, writes_end, item_here, item_some, item_within, written_le, ones_le}
+use Rattle.output.proofs.Walking.{Does, writes_start, writes_turn, writes_end, item_here, item_some, item_within, written_le, ones_le}
 use Rattle.output.proofs.writer.write_functions.Goals as goal
 
 pub loop-p-init : goal.loop-p-init

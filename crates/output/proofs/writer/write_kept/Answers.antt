@@ -9,7 +9,6 @@ use Rattle.program.specs.Bytes.{Bytes}
 use Rattle.program.proofs.Numbers.{bytes_of}
 use Rattle.told.specs.Kept.{is_kept}
 use Rattle.output.proofs.Whole.{whole-size, body-size, functions-here, ends-within, functions-few, sentences-few, whole-written}
-use borrow.Author.Rules.{rules}
 use Rattle.output.proofs.writer.write_kept.Goals as goal
 
 pub overflow_sub-n : goal.overflow_sub-n

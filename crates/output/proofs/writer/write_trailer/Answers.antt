@@ -1,7 +1,6 @@
 -- `output::writer::write_trailer` meets its contract. Assumes nothing.
 use native.Mathlib.Omega.{arith}
 use Rattle.output.proofs.Writing.{trailer_stored}
-use borrow.Author.Rules.{rules}
 use Rattle.output.proofs.writer.write_trailer.Goals as goal
 
 pub returns : goal.returns

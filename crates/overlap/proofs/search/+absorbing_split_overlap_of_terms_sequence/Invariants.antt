@@ -1,20 +1,8 @@
-use Prim.Native.Nat.{ℕ, ◌-◌, ◌<◌, ◌≤◌, ◌+◌, ◌*◌}
-use native.Mathlib.Omega.{arith}
-use mathlib.Core.Path.{◌≡◌, sym, ap, ◌∙◌, subst, refl}
-use borrow.Author.Tests.{not-true, not-false}
+use Prim.Native.Nat.{◌≤◌, ◌+◌, ◌*◌}
 use lib.ListN.{length}
 use Rattle.program.specs.Limits.{Mode}
 use Rattle.image.specs.Parts.{TermsAt}
-use Rattle.image.proofs.Readings.{result-at}
-use Rattle.patterns.specs.declared.Verdict.{Verdict}
-use Rattle.patterns.specs.Search.{found, literal_overlap}
-use Rattle.overlap.specs.Steps.{found_of, behind}
-use Rattle.rows.proofs.Readings.{part, part_length, pattern-room, term_long, rest_at, head_at}
-use Rattle.overlap.proofs.Turns.{Splitting, splitting_first, split_meets, split_ends, split_goes_on, Reached, reached_out, first_closed, second_closed, first_split, second_split, heads-apart, heads-passed}
-use Rattle.overlap.proofs.Tries.{not_both, ended-done, ended-answers, ended-verdict, behind-done, behind-answers}
-use Rattle.patterns.specs.declared.Found.{Found}
-use Rattle.rows.proofs.Heads.{head-room, bracket-at, literal-at, two-brackets, first_bracket_low, first_bracket_high, second_bracket_low, second_bracket_high, first-variable, second-variable, two_literals}
-use Rattle.patterns.proofs.Verdicts.{disjoint≢overlap}
+use Rattle.overlap.proofs.Turns.{Splitting, Reached}
 use Rattle.overlap.proofs.search.+absorbing_split_overlap_of_terms_sequence.Given as goal
 
 abbrev pub decreases-absorbing_split : goal.decreases-absorbing_split

@@ -1,5 +1,5 @@
 -- `overlap::search::is_met` meets its contract.
-use mathlib.Core.Path.{◌≡◌, refl, sym, ◌∙◌}
+use mathlib.Core.Path.{refl, sym, ◌∙◌}
 use mathlib.Core.Bool.{true≢false}
 use Rattle.overlap.proofs.search.is_met.Goals as goal
 

@@ -1,10 +1,9 @@
-use Prim.Native.Nat.{◌+◌, ◌-◌, ◌<◌, ◌≤◌}
+use Prim.Native.Nat.{◌+◌, ◌<◌, ◌≤◌}
 use native.Mathlib.Omega.{arith}
 use lib.ListN.{length}
 use Rattle.program.specs.Limits.{Mode}
-use Rattle.image.specs.Parts.{TermsAt}
 use Rattle.image.proofs.Readings.{result-at}
-use Rattle.rows.proofs.Readings.{part, first-at, pattern-room, next-at, next_fits}
+use Rattle.rows.proofs.Readings.{first-at, pattern-room, next-at, next_fits}
 use Rattle.overlap.proofs.terms.count_terms.Goals as goal
 
 pub loop-x-init : goal.loop-x-init

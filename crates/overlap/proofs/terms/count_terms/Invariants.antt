@@ -1,11 +1,9 @@
 -- `overlap::terms::count_terms` meets its contract: each term has a byte.
-use Prim.Native.Nat.{◌+◌, ◌-◌, ◌<◌, ◌≤◌}
-use native.Mathlib.Omega.{arith}
+use Prim.Native.Nat.{◌-◌, ◌≤◌}
 use lib.ListN.{length}
 use Rattle.program.specs.Limits.{Mode}
 use Rattle.image.specs.Parts.{TermsAt}
-use Rattle.image.proofs.Readings.{result-at}
-use Rattle.rows.proofs.Readings.{part, first-at, pattern-room, next-at, next_fits}
+use Rattle.rows.proofs.Readings.{part}
 use Rattle.overlap.proofs.terms.count_terms.Given as goal
 
 abbrev pub invariant-loop-x : goal.invariant-loop-x

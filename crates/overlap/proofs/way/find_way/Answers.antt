@@ -1,13 +1,8 @@
-use Prim.Native.Nat.{◌+◌, ◌*◌, ◌<◌, ◌≤◌}
 use native.Mathlib.Omega.{arith}
 use mathlib.Core.Path.{◌∙◌}
-use lib.ListN.{length, drop}
 use borrow.Author.Tests.{not-true, not-false}
-use Rattle.program.specs.Limits.{Mode}
-use Rattle.image.specs.Parts.{TermsAt}
-use Rattle.rows.specs.Rows.{Kept}
 use Rattle.rows.proofs.Places.{kept_same, kept_then}
-use Rattle.overlap.specs.Way.{Trail, trail-start}
+use Rattle.overlap.specs.Way.{trail-start}
 use Rattle.overlap.proofs.way.find_way.Goals as goal
 
 pub loop-t-init : goal.loop-t-init

@@ -1,14 +1,10 @@
 -- `overlap::way::find_way` meets its contract: its turns keep the trail from the start, and end with a way.
-use Prim.Native.Nat.{◌+◌, ◌*◌, ◌<◌, ◌≤◌}
-use native.Mathlib.Omega.{arith}
-use mathlib.Core.Path.{◌∙◌}
+use Prim.Native.Nat.{◌+◌, ◌*◌, ◌≤◌}
 use lib.ListN.{length, drop}
-use borrow.Author.Tests.{not-true, not-false}
 use Rattle.program.specs.Limits.{Mode}
 use Rattle.image.specs.Parts.{TermsAt}
 use Rattle.rows.specs.Rows.{Kept}
-use Rattle.rows.proofs.Places.{kept_same, kept_then}
-use Rattle.overlap.specs.Way.{Trail, trail-start}
+use Rattle.overlap.specs.Way.{Trail}
 use Rattle.overlap.proofs.way.find_way.Given as goal
 
 abbrev pub invariant-loop-t : goal.invariant-loop-t

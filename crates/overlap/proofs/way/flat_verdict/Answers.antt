@@ -1,7 +1,7 @@
 -- `overlap::way::flat_verdict` meets its contract: each answer follows the two marks.
 use Prim.Native.Nat.{◌<◌}
 use native.Mathlib.Omega.{arith}
-use mathlib.Core.Path.{◌≡◌, sym, ap, ◌∙◌}
+use mathlib.Core.Path.{sym, ap, ◌∙◌}
 use lib.ListN.{length}
 use Rattle.patterns.specs.Search.{literal_overlap}
 use Rattle.rows.proofs.Heads.{head-room, literal-at, first_bracket_low, first_bracket_high, second_bracket_low, second_bracket_high, first-variable, second-variable, two_literals}

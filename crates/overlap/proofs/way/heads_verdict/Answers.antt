@@ -1,17 +1,10 @@
 -- `overlap::way::heads_verdict` meets its contract.
 use native.Mathlib.Omega.{arith}
-use mathlib.Core.Path.{◌≡◌, sym, ap, ◌∙◌}
-use mathlib.Core.List.{List}
-use mathlib.Core.Logic.{⊎_elim}
-use Prim.Native.Nat.{ℕ, ◌+◌, ◌<◌}
-use lib.ListN.{length, get_or, drop, length-drop}
-use lib.Seq.{drop-drop, get_or-drop}
-use borrow.Author.Rules.{rules}
-use Rattle.program.specs.Limits.{Mode}
-use Rattle.image.specs.Parts.{TermsAt}
+use mathlib.Core.Path.{sym, ap, ◌∙◌}
+use Prim.Native.Nat.{◌+◌, ◌<◌}
+use lib.ListN.{length}
 use Rattle.patterns.specs.declared.Found.{Found}
-use Rattle.rows.specs.Parts.{HeadAt}
-use Rattle.rows.proofs.Readings.{part, mark_in}
+use Rattle.rows.proofs.Readings.{mark_in}
 use Rattle.rows.proofs.Places.{kept_same}
 use Rattle.rows.proofs.Heads.{bracket-at, two-brackets}
 use Rattle.overlap.proofs.Ways.{head_inside, inner_at, head_part, mark-at}

@@ -1,6 +1,5 @@
 -- `overlap::way::lead_of` meets its contract.
 use mathlib.Core.Path.{sym, ap}
-use borrow.Author.Rules.{rules}
 use Rattle.patterns.specs.declared.Verdict.{Verdict}
 use Rattle.overlap.specs.Way.{lead_of}
 use Rattle.overlap.proofs.way.lead_of.Goals as goal

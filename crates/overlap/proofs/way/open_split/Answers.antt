@@ -2,7 +2,6 @@
 use native.Mathlib.Omega.{arith}
 use mathlib.Core.Path.{refl}
 use mathlib.Core.Logic.{inl, inr}
-use borrow.Author.Rules.{rules}
 use Rattle.overlap.proofs.way.open_split.Goals as goal
 
 pub returns-then-room-at : goal.returns-then-room-at

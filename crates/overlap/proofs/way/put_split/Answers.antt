@@ -1,7 +1,6 @@
 -- `overlap::way::put_split` meets its contract.
 use native.Mathlib.Omega.{arith}
 use lib.ListN.{length-set}
-use borrow.Author.Rules.{rules}
 use Rattle.overlap.proofs.way.put_split.Goals as goal
 
 pub bounds-room-at-2 : goal.bounds-room-at-2

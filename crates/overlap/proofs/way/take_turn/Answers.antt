@@ -3,7 +3,6 @@ use Prim.Native.Nat.{ℕ}
 use native.Mathlib.Omega.{arith}
 use mathlib.Core.Path.{◌≡◌, ap, subst}
 use mathlib.Core.List.{List, []}
-use borrow.Author.Rules.{rules}
 use Rattle.rows.specs.Rows.{Kept}
 use Rattle.rows.proofs.Places.{kept_then, kept_less}
 use Rattle.rows.proofs.Readings.{inside}

@@ -1,15 +1,12 @@
-use Prim.Native.Nat.{ℕ, ◌+◌, ◌-◌, ◌<◌, ◌≤◌}
+use Prim.Native.Nat.{ℕ, ◌+◌, ◌<◌, ◌≤◌}
 use native.Mathlib.Omega.{arith}
 use mathlib.Core.Path.{◌≡◌, sym, ◌∙◌, subst}
 use mathlib.Core.List.{List}
-use lib.ListN.{length, get_or, drop}
-use borrow.Author.Rules.{rules}
-use borrow.Author.Tests.{not-true, not-false}
+use lib.ListN.{length, get_or}
 use Rattle.program.specs.Limits.{Mode}
 use Rattle.program.specs.Encode.{put_terms}
 use Rattle.image.specs.Parts.{Passes, TermsAt, tail}
 use Rattle.image.proofs.Readings.{result-at}
-use Rattle.rows.specs.Rows.{Kept}
 use Rattle.rows.proofs.Places.{kept_same, kept_then}
 use Rattle.rows.proofs.Readings.{part, inside, at_part, mark_in, pattern-room, next_fits}
 use Rattle.overlap.specs.declared.way.Lead.{Lead}

@@ -1,5 +1,4 @@
 -- `reader::check::advanced` meets its contract. Assumes nothing.
-use borrow.Author.Rules.{rules}
 use native.Mathlib.Omega.{arith}
 use Rattle.reader.proofs.Loop.{function-few, sentence-few}
 use Rattle.reader.proofs.Helpers.{advanced_out, advanced_in}

@@ -1,7 +1,5 @@
 -- `reader::check::check` meets its contract. Assumes nothing.
 use Rattle.reader.proofs.Answers.{size_low, size-high, size_fine}
-use native.Mathlib.Omega.{arith}
-use borrow.Author.Rules.{rules}
 use Rattle.reader.proofs.check.check.Goals as goal
 
 pub returns-then-img-lt12 : goal.returns-then-img-lt12

@@ -1,9 +1,6 @@
-use borrow.Author.Rules.{rules}
 use native.Mathlib.Omega.{arith}
 use mathlib.Core.Path.{refl}
-use Prim.Native.Nat.{◌+◌, ◌-◌, ◌≤◌}
-use lib.ListN.{length}
-use Rattle.reader.proofs.Loop.{StateOf, state_first, loop_over, loop_end, loop_bad, loop_on, loop_next}
+use Rattle.reader.proofs.Loop.{state_first, loop_over, loop_end, loop_bad, loop_on, loop_next}
 use Rattle.program.proofs.Numbers.{bytes_of}
 use Rattle.reader.proofs.check.check_body.Goals as goal
 

@@ -3,7 +3,6 @@ use Rattle.reader.proofs.Answers.{body-wrong, functions-wrong, body_bad, first_o
 use lib.Seq.{length-take-le}
 use mathlib.Core.Path.{refl, sym}
 use native.Mathlib.Omega.{arith}
-use borrow.Author.Rules.{rules}
 use Rattle.reader.proofs.check.check_sized.Goals as goal
 
 pub returns-then-to_body-n : goal.returns-then-to_body-n

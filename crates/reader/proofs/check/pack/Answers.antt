@@ -1,5 +1,4 @@
 -- `reader::check::pack` meets its contract. Assumes nothing.
-use native.Mathlib.Omega.{arith}
 use Rattle.reader.proofs.Helpers.{packs}
 use borrow.Author.Rules.{rules}
 use Rattle.reader.proofs.check.pack.Goals as goal

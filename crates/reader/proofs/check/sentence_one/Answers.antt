@@ -1,6 +1,5 @@
 -- `reader::check::sentence_one` meets its contract. Assumes nothing.
-use Rattle.reader.proofs.Helpers.{sentence_one-out, sentence_one-yes, sentence_one-mark, sentence_one_deep, sentence_one-kind}
-use borrow.Author.Rules.{rules}
+use Rattle.reader.proofs.Helpers.{sentence_one-yes, sentence_one-mark, sentence_one_deep, sentence_one-kind}
 use Rattle.reader.proofs.check.sentence_one.Goals as goal
 
 pub returns-then-m-eq10 : goal.returns-then-m-eq10

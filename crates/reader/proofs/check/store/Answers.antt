@@ -1,7 +1,6 @@
 -- `reader::check::store` meets its contract. Assumes nothing.
 use lib.ListN.{length-set}
 use native.Mathlib.Omega.{arith}
-use borrow.Author.Rules.{rules}
 use Rattle.reader.proofs.check.store.Goals as goal
 
 pub bounds-s-i-2 : goal.bounds-s-i-2

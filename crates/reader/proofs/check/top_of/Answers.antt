@@ -1,6 +1,5 @@
 -- `reader::check::top_of` meets its contract. Assumes nothing.
 use Rattle.reader.proofs.Helpers.{top_none, top_some}
-use borrow.Author.Rules.{rules}
 use Rattle.reader.proofs.check.top_of.Goals as goal
 
 pub returns-then-n-eq0 : goal.returns-then-n-eq0

@@ -1,6 +1,5 @@
 -- `reader::flat::code_end` meets its contract. Assumes nothing.
 use Rattle.reader.proofs.Passing.{no_end, code-ends}
-use borrow.Author.Rules.{rules}
 use Rattle.reader.proofs.flat.code_end.Goals as goal
 
 pub returns-then-f-ne0 : goal.returns-then-f-ne0

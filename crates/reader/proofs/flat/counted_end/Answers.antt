@@ -1,10 +1,6 @@
-use borrow.Author.Rules.{rules}
 use native.Mathlib.Omega.{arith}
-use Prim.Native.Nat.{◌<◌}
-use lib.ListN.{length}
 use Rattle.program.specs.Automaton.{Stack}
-use Rattle.reader.specs.Tally.{Alike}
-use Rattle.reader.proofs.Passing.{no_end, names_on, counted-first, names-next, counted-done}
+use Rattle.reader.proofs.Passing.{no_end, counted-first, names-next, counted-done}
 use Rattle.reader.proofs.flat.counted_end.Goals as goal
 
 pub returns-then-b-at-lt2 : goal.returns-then-b-at-lt2

@@ -1,11 +1,9 @@
 -- `reader::flat::counted_end` meets its contract. Assumes nothing.
-use borrow.Author.Rules.{rules}
-use native.Mathlib.Omega.{arith}
 use Prim.Native.Nat.{◌<◌}
 use lib.ListN.{length}
 use Rattle.program.specs.Automaton.{Stack}
 use Rattle.reader.specs.Tally.{Alike}
-use Rattle.reader.proofs.Passing.{no_end, names_on, counted-first, names-next, counted-done}
+use Rattle.reader.proofs.Passing.{names_on}
 use Rattle.reader.proofs.flat.counted_end.Given as goal
 
 abbrev pub invariant-loop-left : goal.invariant-loop-left

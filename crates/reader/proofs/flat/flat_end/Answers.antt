@@ -1,6 +1,4 @@
 -- `reader::flat::flat_end` meets its contract. Assumes nothing.
-use borrow.Author.Rules.{rules}
-use native.Mathlib.Omega.{arith}
 use Rattle.reader.proofs.Passing.{no_end, flat_character, flat_number, flat_word, word-marks}
 use Rattle.reader.proofs.flat.flat_end.Goals as goal
 

@@ -1,13 +1,9 @@
 -- `reader::flat::flat_terms` meets its contract. Assumes nothing.
-use borrow.Author.Rules.{rules}
-use native.Mathlib.Omega.{arith}
 use Prim.Native.Nat.{ℕ, ◌-◌, ◌≤◌, ◌<◌}
-use mathlib.Core.Path.{refl}
 use lib.ListN.{length}
 use Rattle.program.specs.Limits.{Mode}
 use Rattle.program.specs.Automaton.{Stack}
 use Rattle.reader.specs.Tally.{Alike, Ends}
-use Rattle.reader.proofs.Passing.{alike_self, alike_then}
 use Rattle.reader.proofs.flat.flat_terms.Given as goal
 
 abbrev pub invariant-loop-q : goal.invariant-loop-q

@@ -1,5 +1,4 @@
 -- `reader::flat::over_names` meets its contract. Assumes nothing.
-use borrow.Author.Rules.{rules}
 use native.Mathlib.Omega.{arith}
 use Rattle.reader.proofs.Passing.{stops_first, stops-names}
 use Rattle.reader.proofs.flat.over_names.Goals as goal

@@ -1,8 +1,5 @@
-use borrow.Author.Rules.{rules}
 use native.Mathlib.Omega.{arith}
-use borrow.Author.Tests.{not-false}
-use Rattle.reader.specs.Tally.{Stops}
-use Rattle.reader.proofs.Passing.{spot, stops_first, stops_flat, stops-close, stops_then}
+use Rattle.reader.proofs.Passing.{stops_first, stops_flat, stops-close, stops_then}
 use Rattle.reader.proofs.flat.over_terms.Goals as goal
 
 pub loop-n-init : goal.loop-n-init

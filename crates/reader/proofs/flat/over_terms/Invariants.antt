@@ -1,9 +1,6 @@
 -- `reader::flat::over_terms` meets its contract. Assumes nothing.
-use borrow.Author.Rules.{rules}
-use native.Mathlib.Omega.{arith}
-use borrow.Author.Tests.{not-false}
 use Rattle.reader.specs.Tally.{Stops}
-use Rattle.reader.proofs.Passing.{spot, stops_first, stops_flat, stops-close, stops_then}
+use Rattle.reader.proofs.Passing.{spot}
 use Rattle.reader.proofs.flat.over_terms.Given as goal
 
 abbrev pub invariant-loop-n : goal.invariant-loop-n

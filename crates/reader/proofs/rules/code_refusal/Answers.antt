@@ -2,9 +2,7 @@
 use native.Mathlib.Omega.{arith}
 use mathlib.Core.Path.{refl, sym, ap}
 use mathlib.Core.Bool.{Bool}
-use borrow.Author.Rules.{rules}
 use Rattle.program.specs.Limits.{pick}
-use Rattle.program.specs.declared.Refusal.{Refusal}
 use Rattle.reader.specs.Steps.{refusal}
 use Rattle.reader.proofs.Refusals.{code_cut_off, code-told}
 use Rattle.reader.proofs.rules.code_refusal.Goals as goal

@@ -1,7 +1,5 @@
 -- `reader::rules::name_refusal` meets its contract. Assumes nothing.
-use native.Mathlib.Omega.{arith}
 use mathlib.Core.Path.{refl}
-use borrow.Author.Rules.{rules}
 use Rattle.reader.proofs.Refusals.{name-none, name-long, name-scanned}
 use Rattle.reader.proofs.rules.name_refusal.Goals as goal
 

@@ -1,9 +1,5 @@
-use borrow.Author.Rules.{rules}
 use native.Mathlib.Omega.{arith}
-use Prim.Native.Nat.{◌+◌, ◌-◌, ◌≤◌}
-use borrow.Author.Tests.{not-true, not-false}
-use lib.ListN.{length}
-use Rattle.reader.proofs.Refusals.{Passed, scan-start, scan_cut, scan-wrong, scan-more, scan_fine}
+use Rattle.reader.proofs.Refusals.{scan-start, scan_cut, scan-wrong, scan-more, scan_fine}
 use Rattle.reader.proofs.rules.scan_refusal.Goals as goal
 
 pub loop-i-init : goal.loop-i-init

@@ -1,10 +1,7 @@
 -- `reader::rules::scan_refusal` meets its contract. Assumes nothing.
-use borrow.Author.Rules.{rules}
-use native.Mathlib.Omega.{arith}
 use Prim.Native.Nat.{◌+◌, ◌-◌, ◌≤◌}
-use borrow.Author.Tests.{not-true, not-false}
 use lib.ListN.{length}
-use Rattle.reader.proofs.Refusals.{Passed, scan-start, scan_cut, scan-wrong, scan-more, scan_fine}
+use Rattle.reader.proofs.Refusals.{Passed}
 use Rattle.reader.proofs.rules.scan_refusal.Given as goal
 
 abbrev pub invariant-loop-i : goal.invariant-loop-i

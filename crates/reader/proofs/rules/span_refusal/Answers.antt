@@ -1,9 +1,5 @@
 -- `reader::rules::span_refusal` meets its contract. Assumes nothing.
 use Rattle.reader.proofs.Refusals.{span_cut, span-wrong, span_fine}
-use native.Mathlib.Omega.{arith}
-use borrow.Author.Rules.{rules}
-use Rattle.reader.specs.Steps.{span_refusal}
-use borrow.Author.Tests.{lt-ltb, le-ltb}
 use Rattle.reader.proofs.rules.span_refusal.Goals as goal
 
 pub returns-then-b-p-lt8 : goal.returns-then-b-p-lt8

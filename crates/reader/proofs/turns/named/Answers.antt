@@ -1,6 +1,5 @@
 -- `reader::turns::named` meets its contract. Assumes nothing.
 use Rattle.reader.proofs.Refusals.{name-on, name-off}
-use borrow.Author.Rules.{rules}
 use Rattle.reader.proofs.turns.named.Goals as goal
 
 pub returns-then-f-eq0 : goal.returns-then-f-eq0

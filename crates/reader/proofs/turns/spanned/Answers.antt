@@ -1,6 +1,5 @@
 -- `reader::turns::spanned` meets its contract. Assumes nothing.
 use Rattle.reader.proofs.Refusals.{span-on, span-off}
-use borrow.Author.Rules.{rules}
 use Rattle.reader.proofs.turns.spanned.Goals as goal
 
 pub returns-then-f-eq0 : goal.returns-then-f-eq0

@@ -1,6 +1,5 @@
 -- `reader::turns::turn` meets its contract. Assumes nothing.
 use Rattle.reader.proofs.Helpers.{turn-out, turn_in}
-use borrow.Author.Rules.{rules}
 use Rattle.reader.proofs.turns.turn.Goals as goal
 
 pub returns-then-n-eq0 : goal.returns-then-n-eq0

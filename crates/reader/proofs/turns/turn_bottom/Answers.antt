@@ -1,6 +1,5 @@
 -- `reader::turns::turn_bottom` meets its contract. Assumes nothing.
 use Rattle.reader.proofs.Turning.{bottom-declaration, bottom-first, bottom-wrong, bottom-function, bottom-other}
-use borrow.Author.Rules.{rules}
 use Rattle.reader.proofs.turns.turn_bottom.Goals as goal
 
 pub returns-in-17 : goal.returns-in-17

@@ -1,6 +1,5 @@
 -- `reader::turns::turn_code` meets its contract. Assumes nothing.
 use Rattle.reader.proofs.Turning.{code-on, code_off}
-use borrow.Author.Rules.{rules}
 use Rattle.reader.proofs.turns.turn_code.Goals as goal
 
 pub returns-then-f-eq0 : goal.returns-then-f-eq0

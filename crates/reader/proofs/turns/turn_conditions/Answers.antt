@@ -1,6 +1,5 @@
 -- `reader::turns::turn_conditions` meets its contract. Assumes nothing.
 use Rattle.reader.proofs.Turning.{conditions-condition, conditions-result, conditions-wrong}
-use borrow.Author.Rules.{rules}
 use Rattle.reader.proofs.turns.turn_conditions.Goals as goal
 
 pub returns-in-11 : goal.returns-in-11

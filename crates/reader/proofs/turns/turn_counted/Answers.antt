@@ -1,7 +1,6 @@
 -- `reader::turns::turn_counted` meets its contract. Assumes nothing.
 use Rattle.reader.proofs.Turning.{counted_none, counted-some}
 use mathlib.Core.Path.{refl}
-use borrow.Author.Rules.{rules}
 use Rattle.reader.proofs.turns.turn_counted.Goals as goal
 
 pub returns-then-m-eq0 : goal.returns-then-m-eq0

@@ -1,7 +1,6 @@
 -- `reader::turns::turn_names` meets its contract. Assumes nothing.
 use Rattle.reader.proofs.Turning.{names-last, names_more}
 use mathlib.Core.Path.{refl}
-use borrow.Author.Rules.{rules}
 use Rattle.reader.proofs.turns.turn_names.Goals as goal
 
 pub returns-then-n-eq0 : goal.returns-then-n-eq0

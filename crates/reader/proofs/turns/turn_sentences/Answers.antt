@@ -1,6 +1,5 @@
 -- `reader::turns::turn_sentences` meets its contract. Assumes nothing.
 use Rattle.reader.proofs.Turning.{sentences-sentence, sentences-close, sentences-wrong}
-use borrow.Author.Rules.{rules}
 use Rattle.reader.proofs.turns.turn_sentences.Goals as goal
 
 pub returns-in-10 : goal.returns-in-10

@@ -2,7 +2,6 @@
 use native.Mathlib.Omega.{arith}
 use mathlib.Core.Logic.{inl, inr}
 use Rattle.reader.proofs.Turning.{turn-character, turn-word, turn-number, turn-bracket, turn_deep, turn-close, barred_none, turn_barred, turn-call, turn-block, turn-other}
-use borrow.Author.Rules.{rules}
 use Rattle.reader.proofs.turns.turn_terms.Goals as goal
 
 pub overflow_add-d-then-n-eq0 : goal.overflow_add-d-then-n-eq0

@@ -1,6 +1,5 @@
 -- `reader::turns::turn_visibility` meets its contract. Assumes nothing.
 use Rattle.reader.proofs.Turning.{visibility_fine, visibility-wrong}
-use borrow.Author.Rules.{rules}
 use Rattle.reader.proofs.turns.turn_visibility.Goals as goal
 
 pub returns-then-m-lt2 : goal.returns-then-m-lt2

@@ -3,7 +3,6 @@ use native.Mathlib.Omega.{arith}
 use mathlib.Core.Path.{ap₂, ◌∙◌}
 use Rattle.patterns.specs.Names.{eq_bytes}
 use Rattle.report.proofs.Places.{function_of, named-at}
-use borrow.Author.Rules.{rules}
 use Rattle.report.proofs.alike.same_function.Goals as goal
 
 pub place_of-p-requires : goal.place_of-p-requires

@@ -5,7 +5,6 @@ use mathlib.Core.Bool.{true, false}
 use Rattle.patterns.specs.Names.{same_name}
 use Rattle.report.proofs.Namesakes.{heads_differ, heads-meet}
 use Rattle.report.proofs.Places.{function_of, named-at}
-use borrow.Author.Rules.{rules}
 use Rattle.report.proofs.alike.same_names.Goals as goal
 
 pub overflow_add-h : goal.overflow_add-h

@@ -1,12 +1,7 @@
 -- `report::alike::same_pattern` meets its contract. Assumes nothing.
-use Prim.Native.Nat.{◌+◌}
 use native.Mathlib.Omega.{arith}
-use lib.ListN.{drop}
-use Rattle.program.specs.Limits.{Mode}
-use Rattle.image.specs.Parts.{TermsAt}
 use Rattle.cleaning.proofs.Meeting.{pattern_part, pattern-within}
 use Rattle.report.proofs.Places.{sentence_of, pattern-at}
-use borrow.Author.Rules.{rules}
 use Rattle.report.proofs.alike.same_pattern.Goals as goal
 
 pub pattern_place-p-requires : goal.pattern_place-p-requires

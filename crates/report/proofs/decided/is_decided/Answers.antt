@@ -1,4 +1,4 @@
-use Prim.Native.Nat.{ℕ, ◌+◌, ◌-◌, ◌<◌}
+use Prim.Native.Nat.{ℕ, ◌+◌, ◌<◌}
 use native.Mathlib.Omega.{arith}
 use mathlib.Core.Path.{◌≡◌, sym, ap, ◌∙◌}
 use mathlib.Core.Bool.{Bool, true, false}
@@ -14,7 +14,6 @@ use Rattle.told.specs.Calls.{is_listed}
 use Rattle.index.specs.Links.{entry_next}
 use Rattle.told.specs.History.{is_there, after_all}
 use Rattle.cleaning.specs.Indexed.{fell_of}
-use Rattle.cleaning.specs.Room.{Used}
 use Rattle.cleaning.specs.Walks.{Owns}
 use Rattle.told.specs.ToldReport.{overlaps}
 use Rattle.cleaning.proofs.Room.{used_same, used_then, used_indexed}

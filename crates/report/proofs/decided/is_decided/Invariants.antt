@@ -1,29 +1,17 @@
 -- `report::decided::is_decided` meets its contract. Assumes nothing.
-use Prim.Native.Nat.{ℕ, ◌+◌, ◌-◌, ◌<◌}
-use native.Mathlib.Omega.{arith}
-use mathlib.Core.Path.{◌≡◌, sym, ap, ◌∙◌}
-use mathlib.Core.Bool.{Bool, true, false}
-use mathlib.Core.Option.{some}
-use lib.ListN.{get_or, get_elem?, drop}
-use Rattle.program.specs.Limits.{Mode}
-use Rattle.image.specs.Parts.{TermsAt}
-use Rattle.program.specs.Sentences.{Sentence, own_sentences}
+use Prim.Native.Nat.{◌-◌}
+use mathlib.Core.Bool.{true}
+use Rattle.program.specs.Sentences.{Sentence}
 use Rattle.program.specs.Syntax.{Function, Program}
-use Rattle.told.specs.Numbered.{Held, sites_of}
-use Rattle.index.specs.Layout.{links}
+use Rattle.told.specs.Numbered.{sites_of}
 use Rattle.told.specs.Calls.{is_listed}
-use Rattle.index.specs.Links.{entry_next}
 use Rattle.told.specs.History.{is_there, after_all}
 use Rattle.cleaning.specs.Indexed.{fell_of}
 use Rattle.cleaning.specs.Room.{Used}
 use Rattle.cleaning.specs.Walks.{Owns}
 use Rattle.told.specs.ToldReport.{overlaps}
-use Rattle.cleaning.proofs.Room.{used_same, used_then, used_indexed}
 use Rattle.cleaning.proofs.Walking.{Going}
 use Rattle.report.specs.Emitting.{Readable}
-use Rattle.report.proofs.Places.{owner_below, owned_below, pattern-at}
-use Rattle.report.proofs.RoomUsed.{used_keep, used_next}
-use Rattle.report.proofs.Verdicts.{overlaps-less, walk_first, walk_end, walk-element, walk-listed, walk_found, walk-next}
 use Rattle.report.proofs.decided.is_decided.Given as goal
 
 -- Nothing before i overlaps, and i is on the list.

@@ -1,6 +1,5 @@
 -- `report::decided::is_undecided` meets its contract. Assumes nothing.
 use Rattle.report.proofs.OpenNotes.{open_read}
-use borrow.Author.Rules.{rules}
 use Rattle.report.proofs.decided.is_undecided.Goals as goal
 
 pub returns : goal.returns

@@ -3,7 +3,6 @@ use mathlib.Core.Path.{sym, ◌∙◌}
 use mathlib.Core.Bool.{true}
 use Rattle.cleaning.proofs.Meeting.{not_is}
 use Rattle.report.proofs.OpenNotes.{function_open, function_passed}
-use borrow.Author.Rules.{rules}
 use Rattle.report.proofs.decided.note_if_judged.Goals as goal
 
 pub is_judged-requires : goal.is_judged-requires

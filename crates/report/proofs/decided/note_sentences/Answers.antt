@@ -1,4 +1,4 @@
-use Prim.Native.Nat.{ℕ, suc, ◌+◌, ◌-◌, ◌<◌, ◌≤◌}
+use Prim.Native.Nat.{ℕ, suc, ◌+◌, ◌<◌, ◌≤◌}
 use native.Mathlib.Omega.{arith}
 use mathlib.Core.Path.{◌≡◌, ap, ◌∙◌}
 use mathlib.Core.Option.{some}
@@ -7,12 +7,9 @@ use Rattle.program.specs.Sentences.{Sentence, own_sentences}
 use Rattle.program.specs.Syntax.{Function, Program}
 use Rattle.program.proofs.Own.{own-counted}
 use Rattle.told.specs.Numbered.{sentences_before}
-use Rattle.index.proofs.First.{Element}
-use Rattle.cleaning.specs.Indexed.{SomeBody}
 use Rattle.cleaning.specs.Walks.{Owns}
 use Rattle.cleaning.proofs.Owned.{before_most}
 use Rattle.report.specs.Emitting.{Readable}
-use Rattle.report.specs.Notes.{OpenUpto}
 use Rattle.report.proofs.OpenNotes.{open_readable, open_first, open_next, open_end}
 use Rattle.report.proofs.Places.{function_of, sentence_of}
 use Rattle.report.proofs.decided.note_sentences.Goals as goal

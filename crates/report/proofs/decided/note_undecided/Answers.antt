@@ -1,8 +1,5 @@
-use Prim.Native.Nat.{◌-◌, ◌≤◌}
 use native.Mathlib.Omega.{arith}
 use mathlib.Core.Path.{◌≡◌, subst}
-use Rattle.program.specs.Syntax.{Program}
-use Rattle.report.specs.Emitting.{Readable}
 use Rattle.report.specs.Notes.{DecidedUpto}
 use Rattle.report.proofs.OpenNotes.{open_readable, decided-none, decided-next}
 use Rattle.report.proofs.Places.{function_of}

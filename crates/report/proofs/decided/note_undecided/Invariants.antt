@@ -1,12 +1,8 @@
 -- `report::decided::note_undecided` meets its contract. Assumes nothing.
 use Prim.Native.Nat.{◌-◌, ◌≤◌}
-use native.Mathlib.Omega.{arith}
-use mathlib.Core.Path.{◌≡◌, subst}
 use Rattle.program.specs.Syntax.{Program}
 use Rattle.report.specs.Emitting.{Readable}
 use Rattle.report.specs.Notes.{DecidedUpto}
-use Rattle.report.proofs.OpenNotes.{open_readable, decided-none, decided-next}
-use Rattle.report.proofs.Places.{function_of}
 use Rattle.report.proofs.decided.note_undecided.Given as goal
 
 -- The functions before f have been asked.

@@ -1,13 +1,12 @@
 -- `report::decided::overlaps_at` meets its contract. Assumes nothing.
-use Prim.Native.Nat.{ℕ, ◌<◌}
+use Prim.Native.Nat.{◌<◌}
 use mathlib.Core.Path.{sym, ◌∙◌}
-use mathlib.Core.Bool.{Bool, true, false}
+use mathlib.Core.Bool.{true, false}
 use Rattle.told.specs.History.{is_there}
 use Rattle.cleaning.specs.Indexed.{fell_of}
 use Rattle.cleaning.proofs.Meeting.{not_is, site-below, sentence-below}
 use Rattle.cleaning.proofs.Room.{used_same}
 use Rattle.report.proofs.Verdicts.{overlaps_gone, overlaps-asked}
-use borrow.Author.Rules.{rules}
 use Rattle.report.proofs.decided.overlaps_at.Goals as goal
 
 pub site_there-requires : goal.site_there-requires

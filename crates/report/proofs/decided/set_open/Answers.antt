@@ -5,7 +5,6 @@ use mathlib.Core.Path.{sym, ◌∙◌}
 use borrow.Author.Tests.{eq-eqb, ne_eqb}
 use lib.ListN.{get_or}
 use Rattle.report.proofs.OpenNotes.{open_written}
-use borrow.Author.Rules.{rules}
 use Rattle.report.proofs.decided.set_open.Goals as goal
 
 pub returns-then-undecided : goal.returns-then-undecided

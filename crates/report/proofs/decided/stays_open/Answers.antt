@@ -1,8 +1,7 @@
 -- `report::decided::stays_open` meets its contract. Assumes nothing.
-use Prim.Native.Nat.{ℕ}
 use native.Mathlib.Omega.{arith}
 use mathlib.Core.Path.{sym, ◌∙◌}
-use mathlib.Core.Bool.{Bool, true, false}
+use mathlib.Core.Bool.{true, false}
 use Rattle.told.specs.History.{is_there, after_all}
 use Rattle.told.specs.Numbered.{sites_of}
 use Rattle.cleaning.specs.Indexed.{fell_of}
@@ -10,7 +9,6 @@ use Rattle.cleaning.proofs.Meeting.{not_is}
 use Rattle.cleaning.proofs.Room.{used_same}
 use Rattle.report.proofs.Places.{owned_below}
 use Rattle.report.proofs.OpenNotes.{open_gone, open_asked}
-use borrow.Author.Rules.{rules}
 use Rattle.report.proofs.decided.stays_open.Goals as goal
 
 pub is_there-requires : goal.is_there-requires

@@ -10,7 +10,6 @@ use Rattle.told.specs.ToldReport.{fallen_from, same_fallen, removed_of}
 use Rattle.meaning.specs.Report.{uncharacterised_line}
 use Rattle.text.proofs.Fill.{emitted-length}
 use Rattle.report.proofs.Whole.{removed-few, undecided-few, uncovered-few, removed_now, undecided_now, uncovered_now, names-told, figures-told}
-use borrow.Author.Rules.{rules}
 use Rattle.report.proofs.format.count_lists.Goals as goal
 
 pub put_uncovered-uncovered-requires : goal.put_uncovered-uncovered-requires

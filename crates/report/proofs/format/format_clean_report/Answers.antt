@@ -3,7 +3,6 @@ use mathlib.Core.Path.{sym, ap, ◌∙◌}
 use mathlib.Core.List.{◌++◌}
 use Rattle.cleaning.specs.Indexed.{fell_of}
 use Rattle.text.specs.Counts.{top_text, graph_text}
-use Rattle.text.specs.Fill.{Emitted}
 use Rattle.text.specs.declared.writer.Writer.{Writer}
 use Rattle.text.proofs.Fill.{emitted-same, emitted-append}
 use Rattle.report.specs.Format.{listed_text}

@@ -1,6 +1,5 @@
 -- `report::format::format_unchanged` meets its contract: the lent text ends as the writer leaves it.
 use mathlib.Core.Path.{sym, ap, ◌∙◌}
-use Rattle.text.specs.Fill.{Emitted}
 use Rattle.text.specs.declared.writer.Writer.{Writer}
 use Rattle.text.proofs.Fill.{emitted-same}
 use Rattle.text.proofs.Pieces.{unchanged_text_lem}

@@ -10,7 +10,6 @@ use Rattle.meaning.specs.Report.{uncharacterised_line}
 use Rattle.text.proofs.Fill.{emitted-append, emitted-same, emitted-length}
 use Rattle.report.specs.Format.{lists_text}
 use Rattle.report.proofs.Whole.{lists_measured, names_measured, whole-told}
-use borrow.Author.Rules.{rules}
 use Rattle.report.proofs.format.measure_clean_report.Goals as goal
 
 -- GONE

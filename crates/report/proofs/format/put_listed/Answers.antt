@@ -9,7 +9,6 @@ use Rattle.meaning.specs.Report.{uncharacterised_line}
 use Rattle.text.proofs.Fill.{emitted-append}
 use Rattle.report.specs.Format.{lists_text, listed_text}
 use Rattle.report.proofs.RoomUsed.{used_readable, used_some}
-use borrow.Author.Rules.{rules}
 use Rattle.report.proofs.format.put_listed.Goals as goal
 
 pub put_uncharacterised-names-requires : goal.put_uncharacterised-names-requires

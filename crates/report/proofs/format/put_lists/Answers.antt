@@ -8,7 +8,6 @@ use Rattle.text.specs.Counts.{count_line}
 use Rattle.meaning.specs.Report.{removed_line, undecided_line, uncovered_line}
 use Rattle.text.proofs.Fill.{emitted-append, emitted-same, emitted-length}
 use Rattle.report.proofs.Whole.{removed_now, undecided_now, uncovered_now, lists_told}
-use borrow.Author.Rules.{rules}
 use Rattle.report.proofs.format.put_lists.Goals as goal
 
 -- GONE

@@ -1,7 +1,7 @@
 -- `report::leading::leads` meets its contract. Assumes nothing.
 use Prim.Native.Nat.{◌+◌, ◌<◌, ℕ}
 use native.Mathlib.Omega.{arith}
-use mathlib.Core.Bool.{Bool, false, true, not}
+use mathlib.Core.Bool.{false, true, not}
 use mathlib.Core.List.{List}
 use mathlib.Core.Option.{some}
 use mathlib.Core.Path.{ap, sym, ◌∙◌, ◌≡◌}

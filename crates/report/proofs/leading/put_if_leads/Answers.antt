@@ -14,8 +14,6 @@ use Rattle.told.specs.Calls.{is_listed}
 use Rattle.report.specs.Emitting.{Readable}
 use Rattle.report.specs.Leading.{angled_if, is_leading}
 use Rattle.text.proofs.Fill.{emitted-nothing, emitted-same}
-use Rattle.compare.proofs.Letters.{place}
-use borrow.Author.Rules.{rules}
 use Rattle.report.proofs.leading.put_if_leads.Goals as goal
 
 pub leads-requires : goal.leads-requires

@@ -5,15 +5,11 @@ use mathlib.Core.List.{◌++◌, [], ◌∷◌}
 use mathlib.Core.Path.{ap}
 use Rattle.cleaning.proofs.Meeting.{pattern_part}
 use Rattle.meaning.specs.Text.{format_terms}
-use Rattle.program.specs.Limits.{Mode}
-use Rattle.image.specs.Parts.{TermsAt}
 use Rattle.report.specs.Leading.{angled_after}
-use Rattle.report.specs.Uncovered.{ArgumentAt}
-use Rattle.rows.proofs.Readings.{part, part_length}
+use Rattle.rows.proofs.Readings.{part_length}
 use Rattle.text.proofs.Fill.{emitted-append, emitted-same}
 use Rattle.text.proofs.Formatting.{terms_text_fits}
 use Rattle.patterns.specs.Ascii.{ascii}
-use borrow.Author.Rules.{rules}
 use Rattle.report.proofs.leading.put_restriction.Goals as goal
 
 pub argument_of-q-requires : goal.argument_of-q-requires

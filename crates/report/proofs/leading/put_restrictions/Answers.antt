@@ -1,29 +1,21 @@
-use Prim.Native.Nat.{◌*◌, ◌+◌, ◌-◌, ◌<◌, suc, ℕ, ◌≤◌}
+use Prim.Native.Nat.{◌+◌, ◌<◌, suc, ℕ}
 use native.Mathlib.Omega.{arith}
-use mathlib.Core.Bool.{Bool, true}
-use mathlib.Core.List.{List, flat_map}
-use mathlib.Core.Option.{some}
+use mathlib.Core.Bool.{true}
+use mathlib.Core.List.{flat_map}
 use mathlib.Core.Path.{ap, refl, sym, ◌∙◌, ◌≡◌}
-use lib.ListN.{drop, get_or, get_elem?, length}
+use lib.ListN.{drop, get_or}
 use Rattle.cleaning.proofs.Meeting.{here_element, here-listed, on-next}
 use Rattle.cleaning.proofs.Walking.{head_first}
-use Rattle.meaning.specs.Cleaning.{round}
 use Rattle.told.specs.History.{is_there}
 use Rattle.cleaning.specs.Indexed.{fell_of}
 use Rattle.told.specs.Numbered.{sites_of}
-use Rattle.told.specs.ToldReport.{restrictions_at}
 use Rattle.cleaning.specs.Walks.{OnList}
-use Rattle.program.specs.Syntax.{Function, Program}
 use Rattle.index.proofs.First.{Element, element_at}
 use Rattle.index.specs.Layout.{links}
 use Rattle.index.specs.Links.{entry_next}
-use Rattle.index.specs.declared.Plan.{Plan}
 use Rattle.report.proofs.Leaders.{leading_end, leading_next, leading_restrictions, leading_text, next-listed}
-use Rattle.report.specs.Emitting.{Readable}
 use Rattle.report.specs.Leading.{angled_after, angled_if, is_leading, leading_from}
 use Rattle.text.proofs.Fill.{emitted-append, emitted-length, emitted-nothing, emitted-same}
-use Rattle.text.specs.Fill.{Emitted}
-use Rattle.report.proofs.leading.put_restrictions.Invariants.{Whole}
 use Rattle.report.proofs.leading.put_restrictions.Goals as goal
 
 pub links_of-links-requires : goal.links_of-links-requires

@@ -1,13 +1,9 @@
 -- `report::leading::put_restrictions` meets its contract. Assumes nothing.
-use Prim.Native.Nat.{◌*◌, ◌+◌, ◌-◌, ◌<◌, suc, ℕ, ◌≤◌}
-use native.Mathlib.Omega.{arith}
-use mathlib.Core.Bool.{Bool, true}
+use Prim.Native.Nat.{◌*◌, ◌+◌, ◌-◌, ℕ, ◌≤◌}
 use mathlib.Core.List.{List, flat_map}
 use mathlib.Core.Option.{some}
-use mathlib.Core.Path.{ap, refl, sym, ◌∙◌, ◌≡◌}
-use lib.ListN.{drop, get_or, get_elem?, length}
-use Rattle.cleaning.proofs.Meeting.{here_element, here-listed, on-next}
-use Rattle.cleaning.proofs.Walking.{head_first}
+use mathlib.Core.Path.{◌≡◌}
+use lib.ListN.{drop, get_elem?, length}
 use Rattle.meaning.specs.Cleaning.{round}
 use Rattle.told.specs.History.{is_there}
 use Rattle.cleaning.specs.Indexed.{fell_of}
@@ -15,14 +11,9 @@ use Rattle.told.specs.Numbered.{sites_of}
 use Rattle.told.specs.ToldReport.{restrictions_at}
 use Rattle.cleaning.specs.Walks.{OnList}
 use Rattle.program.specs.Syntax.{Function, Program}
-use Rattle.index.proofs.First.{Element, element_at}
-use Rattle.index.specs.Layout.{links}
-use Rattle.index.specs.Links.{entry_next}
 use Rattle.index.specs.declared.Plan.{Plan}
-use Rattle.report.proofs.Leaders.{leading_end, leading_next, leading_restrictions, leading_text, next-listed}
 use Rattle.report.specs.Emitting.{Readable}
-use Rattle.report.specs.Leading.{angled_after, angled_if, is_leading, leading_from}
-use Rattle.text.proofs.Fill.{emitted-append, emitted-length, emitted-nothing, emitted-same}
+use Rattle.report.specs.Leading.{angled_after, leading_from}
 use Rattle.text.specs.Fill.{Emitted}
 use Rattle.report.proofs.leading.put_restrictions.Given as goal
 

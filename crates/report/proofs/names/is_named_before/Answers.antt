@@ -1,13 +1,8 @@
-use Prim.Native.Nat.{ℕ, ◌-◌, ◌≤◌}
+use Prim.Native.Nat.{ℕ}
 use native.Mathlib.Omega.{arith}
 use mathlib.Core.Path.{◌≡◌, sym, ap, ◌∙◌}
-use mathlib.Core.Bool.{false}
-use mathlib.Core.Option.{some}
-use lib.ListN.{get_elem?}
-use Rattle.program.specs.Syntax.{Function, Program}
 use Rattle.patterns.specs.Names.{same_name}
 use Rattle.meaning.specs.Lists.{any}
-use Rattle.report.specs.Emitting.{Readable}
 use Rattle.report.proofs.Places.{function_of}
 use Rattle.report.proofs.Uncharacterised.{names_to, none_before, found_before, none_yet}
 use Rattle.report.proofs.names.is_named_before.Goals as goal

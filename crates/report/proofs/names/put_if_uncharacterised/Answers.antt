@@ -5,7 +5,6 @@ use lib.Dec.{eqb}
 use Rattle.text.proofs.Fill.{emitted-nothing, emitted-append, emitted-same}
 use Rattle.report.specs.Names.{lead}
 use Rattle.report.proofs.Uncharacterised.{text_new, text-none, count_new, count_none}
-use borrow.Author.Rules.{rules}
 use Rattle.report.proofs.names.put_if_uncharacterised.Goals as goal
 
 pub is_newly_uncharacterised-requires : goal.is_newly_uncharacterised-requires

@@ -4,7 +4,6 @@ use mathlib.Core.Path.{sym, ap}
 use Rattle.patterns.specs.Ascii.{ascii}
 use Rattle.text.proofs.Fill.{emitted-same}
 use Rattle.report.specs.Names.{lead}
-use borrow.Author.Rules.{rules}
 use Rattle.report.proofs.names.put_lead.Goals as goal
 
 -- GONE

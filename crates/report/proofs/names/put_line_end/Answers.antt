@@ -5,7 +5,6 @@ use borrow.Author.Tests.{eq-eqb, ne_eqb}
 use Rattle.patterns.specs.Ascii.{ascii}
 use Rattle.text.proofs.Fill.{emitted-nothing, emitted-same}
 use Rattle.report.specs.Names.{line_end}
-use borrow.Author.Rules.{rules}
 use Rattle.report.proofs.names.put_line_end.Goals as goal
 
 pub returns-then-at-from : goal.returns-then-at-from

@@ -1,13 +1,10 @@
 -- `report::names::put_uncharacterised` meets its contract. Assumes nothing.
 use Prim.Native.Nat.{◌+◌, ◌-◌, ◌*◌, ◌≤◌}
-use native.Mathlib.Omega.{arith}
-use mathlib.Core.Path.{◌≡◌, ◌∙◌}
+use mathlib.Core.Path.{◌≡◌}
 use Rattle.program.specs.Syntax.{Program}
 use Rattle.text.specs.Fill.{Emitted}
-use Rattle.text.proofs.Fill.{emitted-nothing, emitted-same, emitted-length}
 use Rattle.report.specs.Emitting.{Readable}
-use Rattle.report.proofs.Places.{function_of}
-use Rattle.report.proofs.Uncharacterised.{line_to, line_start, line_step, line_done, count_to, count-start, count_step, count-done}
+use Rattle.report.proofs.Uncharacterised.{line_to, count_to}
 use Rattle.report.proofs.names.put_uncharacterised.Given as goal
 
 abbrev pub invariant-loop-f : goal.invariant-loop-f

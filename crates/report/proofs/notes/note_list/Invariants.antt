@@ -1,19 +1,13 @@
 -- `report::notes::note_list` meets its contract. Assumes nothing.
-use Prim.Native.Nat.{ℕ, ◌-◌, ◌<◌}
-use native.Mathlib.Omega.{arith}
+use Prim.Native.Nat.{ℕ, ◌-◌}
 use mathlib.Core.Path.{◌≡◌}
-use mathlib.Core.Bool.{true}
 use mathlib.Core.List.{List}
 use mathlib.Core.Option.{some}
 use lib.ListN.{get_elem?}
 use Rattle.program.specs.Syntax.{Function, Program}
 use Rattle.told.specs.Numbered.{sites_of}
-use Rattle.index.proofs.First.{Element, element_at}
 use Rattle.cleaning.specs.Indexed.{Indexed}
-use Rattle.cleaning.proofs.Meeting.{sentence-below}
-use Rattle.cleaning.proofs.Walking.{head_first}
 use Rattle.report.specs.Notes.{Noting}
-use Rattle.report.proofs.SiteNotes.{notes-indexed, noting_start, noting_turn, noting_end}
 use Rattle.report.proofs.notes.note_list.Given as goal
 
 -- The sites of the list before i are noted, for every reading of work.

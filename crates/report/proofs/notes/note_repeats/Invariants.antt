@@ -1,14 +1,9 @@
 -- `report::notes::note_repeats` meets its contract. Assumes nothing.
 use Prim.Native.Nat.{ℕ, ◌-◌, ◌≤◌}
-use native.Mathlib.Omega.{arith}
-use mathlib.Core.Path.{◌≡◌, subst}
 use mathlib.Core.List.{List}
 use Rattle.program.specs.Syntax.{Program}
-use Rattle.index.proofs.First.{element_at}
 use Rattle.cleaning.specs.Indexed.{Indexed}
-use Rattle.cleaning.proofs.Indexed.{only_rounds_indexed}
 use Rattle.report.specs.Notes.{NotesWritten}
-use Rattle.report.proofs.SiteNotes.{written-only, notes-none, notes-next}
 use Rattle.report.proofs.notes.note_repeats.Given as goal
 
 -- The sites of the functions before f are noted, for every reading of work.

@@ -8,7 +8,6 @@ use Rattle.index.specs.Layout.{calls, links}
 use Rattle.index.specs.Links.{entry_class}
 use Rattle.cleaning.specs.Indexed.{fell_of}
 use Rattle.report.proofs.SiteNotes.{noted-first, noted-repeat}
-use borrow.Author.Rules.{rules}
 use Rattle.report.proofs.notes.note_site.Goals as goal
 
 pub fell-k-requires : goal.fell-k-requires

@@ -5,12 +5,11 @@ use mathlib.Core.Path.{sym, ◌∙◌, ◌≡◌}
 use Rattle.cleaning.specs.Indexed.{fell_of}
 use Rattle.cleaning.specs.Walks.{Owns}
 use Rattle.program.specs.Sentences.{Sentence, own_sentences}
-use Rattle.program.specs.Syntax.{Function, Program, sentence}
+use Rattle.program.specs.Syntax.{Function, Program}
 use Rattle.index.proofs.First.{element_below}
 use Rattle.report.proofs.RemovedLines.{fallen_restricted, listed_line, listed_not, listed-repeat}
 use Rattle.report.specs.Emitting.{SomeReadable}
 use Rattle.report.specs.Removed.{Removing, is_repeated}
-use borrow.Author.Rules.{rules}
 use Rattle.report.proofs.removed.put_if_removed.Goals as goal
 
 pub fell-requires : goal.fell-requires

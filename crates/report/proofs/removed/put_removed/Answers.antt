@@ -1,17 +1,8 @@
-use Prim.Native.Nat.{◌*◌, ◌+◌, ◌-◌, ◌<◌, ℕ, ◌≤◌}
 use native.Mathlib.Omega.{arith}
-use mathlib.Core.List.{List}
-use mathlib.Core.Path.{refl, ◌∙◌, ◌≡◌}
-use lib.ListN.{length}
-use Rattle.meaning.specs.Cleaning.{round, rounds}
+use mathlib.Core.Path.{refl, ◌∙◌}
 use Rattle.cleaning.specs.Indexed.{fell_of}
-use Rattle.told.specs.ToldReport.{fallen_from}
-use Rattle.program.specs.Syntax.{Program}
-use Rattle.index.specs.Layout.{lines}
-use Rattle.report.proofs.RemovedLines.{listed-firsts, rest_rounds, rounds-last, rounds-start, rounds_step}
-use Rattle.report.specs.Removed.{Listed, Removing, longest}
+use Rattle.report.proofs.RemovedLines.{listed-firsts, rounds-last, rounds-start, rounds_step}
 use Rattle.text.proofs.Fill.{emitted-length}
-use Rattle.compare.proofs.Letters.{place}
 use Rattle.report.proofs.removed.put_removed.Goals as goal
 
 pub loop-round-init : goal.loop-round-init

@@ -1,18 +1,13 @@
 -- `report::removed::put_removed` meets its contract. Assumes nothing.
 use Prim.Native.Nat.{◌*◌, ◌+◌, ◌-◌, ◌<◌, ℕ, ◌≤◌}
-use native.Mathlib.Omega.{arith}
 use mathlib.Core.List.{List}
-use mathlib.Core.Path.{refl, ◌∙◌, ◌≡◌}
+use mathlib.Core.Path.{◌≡◌}
 use lib.ListN.{length}
-use Rattle.meaning.specs.Cleaning.{round, rounds}
 use Rattle.cleaning.specs.Indexed.{fell_of}
 use Rattle.told.specs.ToldReport.{fallen_from}
 use Rattle.program.specs.Syntax.{Program}
-use Rattle.index.specs.Layout.{lines}
-use Rattle.report.proofs.RemovedLines.{listed-firsts, rest_rounds, rounds-last, rounds-start, rounds_step}
+use Rattle.report.proofs.RemovedLines.{rest_rounds}
 use Rattle.report.specs.Removed.{Listed, Removing, longest}
-use Rattle.text.proofs.Fill.{emitted-length}
-use Rattle.compare.proofs.Letters.{place}
 use Rattle.report.proofs.removed.put_removed.Given as goal
 
 -- With the lines of what is left, it is the whole.

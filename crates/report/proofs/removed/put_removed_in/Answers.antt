@@ -1,24 +1,18 @@
-use Prim.Native.Nat.{◌*◌, ◌+◌, ◌-◌, suc, ℕ, ◌≤◌}
+use Prim.Native.Nat.{◌+◌, suc, ℕ, ◌≤◌}
 use native.Mathlib.Omega.{arith}
-use mathlib.Core.List.{List}
 use mathlib.Core.Option.{some}
 use mathlib.Core.Path.{ap, refl, ◌∙◌, ◌≡◌}
-use lib.ListN.{get_elem?, length}
+use lib.ListN.{get_elem?}
 use Rattle.cleaning.proofs.Owned.{before-later}
-use Rattle.meaning.specs.Cleaning.{round, rounds}
 use Rattle.cleaning.specs.Indexed.{fell_of}
-use Rattle.told.specs.ToldReport.{fallen_of}
 use Rattle.program.specs.Syntax.{Function, Program}
-use Rattle.index.specs.Layout.{lines}
 use Rattle.told.specs.Numbered.{sentences_before}
 use Rattle.report.proofs.Places.{function_of, sentence_of}
-use Rattle.report.proofs.RemovedLines.{rest_of, sentences-end, sentences-start, sentences_step}
+use Rattle.report.proofs.RemovedLines.{sentences-end, sentences-start, sentences_step}
 use Rattle.report.proofs.Repeating.{Owned, sentences-within}
 use Rattle.report.specs.Emitting.{Readable}
-use Rattle.report.specs.Removed.{Listed, Removing, longest}
+use Rattle.report.specs.Removed.{Removing}
 use Rattle.text.proofs.Fill.{emitted-length}
-use denote.RattleType.{owns}
-use Rattle.report.proofs.removed.put_removed_in.Invariants.{Reached}
 use Rattle.report.proofs.removed.put_removed_in.Goals as goal
 
 pub overflow_add-f : goal.overflow_add-f

@@ -1,19 +1,16 @@
 -- `report::removed::put_removed_line` meets its contract. Assumes nothing.
 use native.Mathlib.Omega.{arith}
 use mathlib.Core.List.{◌++◌, flat_map}
-use Rattle.meaning.specs.Cleaning.{rejected}
 use Rattle.told.specs.History.{is_there}
 use Rattle.cleaning.specs.Indexed.{fell_of}
 use Rattle.told.specs.Numbered.{sites_of}
 use Rattle.meaning.specs.Text.{format_terms}
 use Rattle.told.specs.ToldReport.{restrictions_at}
-use Rattle.program.specs.Syntax.{sentence}
 use Rattle.report.proofs.RemovedLines.{line_parts, removed_line_lem}
 use Rattle.report.specs.Leading.{angled_after}
 use Rattle.report.specs.Sentence.{sentence_text}
 use Rattle.text.proofs.Fill.{emitted-append, emitted-same}
 use Rattle.patterns.specs.Ascii.{ascii}
-use borrow.Author.Rules.{rules}
 use Rattle.report.proofs.removed.put_removed_line.Goals as goal
 
 pub put_bytes-first-requires : goal.put_bytes-first-requires

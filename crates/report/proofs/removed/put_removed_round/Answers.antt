@@ -1,20 +1,12 @@
-use Prim.Native.Nat.{◌*◌, ◌+◌, ◌-◌, suc, ℕ, ◌≤◌}
+use Prim.Native.Nat.{◌+◌, suc, ℕ, ◌≤◌}
 use native.Mathlib.Omega.{arith}
-use mathlib.Core.List.{List}
 use mathlib.Core.Path.{ap, refl, ◌∙◌, ◌≡◌}
-use lib.ListN.{length}
-use Rattle.meaning.specs.Cleaning.{round}
 use Rattle.cleaning.specs.Indexed.{fell_of}
-use Rattle.told.specs.ToldReport.{fallen_in}
-use Rattle.program.specs.Syntax.{Program}
-use Rattle.index.specs.Layout.{lines}
 use Rattle.told.specs.Numbered.{sentences_before}
 use Rattle.report.proofs.Places.{function_of}
-use Rattle.report.proofs.RemovedLines.{functions-last, functions-start, functions_step, rest_from}
+use Rattle.report.proofs.RemovedLines.{functions-last, functions-start, functions_step}
 use Rattle.report.proofs.Repeating.{sentences-within}
-use Rattle.report.specs.Removed.{Listed, Removing, longest}
 use Rattle.text.proofs.Fill.{emitted-length}
-use Rattle.compare.proofs.Letters.{place}
 use Rattle.report.proofs.removed.put_removed_round.Goals as goal
 
 pub loop-f-init : goal.loop-f-init

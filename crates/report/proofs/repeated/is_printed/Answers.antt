@@ -9,7 +9,6 @@ use Rattle.cleaning.specs.Indexed.{fell_of}
 use Rattle.meaning.specs.Text.{format_terms}
 use Rattle.report.specs.Removed.{prints}
 use Rattle.patterns.specs.Names.{eq_bytes}
-use borrow.Author.Rules.{rules}
 use Rattle.report.proofs.repeated.is_printed.Goals as goal
 
 pub fell-k-requires : goal.fell-k-requires

@@ -1,18 +1,13 @@
 -- `report::repeated::is_repeated` meets its contract. Assumes nothing.
 use Prim.Native.Nat.{◌-◌, ◌<◌, suc, ℕ}
-use native.Mathlib.Omega.{arith}
 use mathlib.Core.Bool.{true}
 use mathlib.Core.Option.{some}
-use mathlib.Core.Path.{sym, ◌≡◌}
+use mathlib.Core.Path.{◌≡◌}
 use lib.ListN.{get_elem?}
 use Rattle.cleaning.specs.Indexed.{fell_of}
 use Rattle.program.specs.Sentences.{Sentence, own_sentences}
-use Rattle.program.specs.Syntax.{Function, Program, sentence}
-use Rattle.index.proofs.First.{element_below}
+use Rattle.program.specs.Syntax.{Function, Program}
 use Rattle.told.specs.Numbered.{sentences_before}
-use Rattle.report.proofs.FallenList.{repeated_never, repeated_printing}
-use Rattle.report.proofs.Places.{function_of}
-use Rattle.report.proofs.Repeating.{none-function}
 use Rattle.report.specs.Emitting.{Readable}
 use Rattle.report.specs.Removed.{NonePrinting}
 use Rattle.patterns.specs.Names.{same_name}

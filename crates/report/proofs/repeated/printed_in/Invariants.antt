@@ -1,20 +1,14 @@
 -- `report::repeated::printed_in` meets its contract. Assumes nothing.
-use Prim.Native.Nat.{◌+◌, ◌-◌, suc, ℕ, ◌≤◌}
-use native.Mathlib.Omega.{arith}
-use mathlib.Core.Bool.{false≢true, true≢false}
+use Prim.Native.Nat.{◌-◌, ◌≤◌}
 use mathlib.Core.Option.{some}
-use mathlib.Core.Path.{ap, sym, ◌∙◌, ◌≡◌}
+use mathlib.Core.Path.{◌≡◌}
 use lib.ListN.{get_elem?}
-use Rattle.meaning.specs.Cleaning.{round}
 use Rattle.cleaning.specs.Indexed.{fell_of}
 use Rattle.program.specs.Sentences.{Sentence, own_sentences}
-use Rattle.program.specs.Syntax.{Program, number}
+use Rattle.program.specs.Syntax.{Program}
 use Rattle.told.specs.Numbered.{sentences_before}
-use Rattle.report.proofs.Places.{sentence_of}
-use Rattle.report.proofs.Repeating.{none_first, none-next, sentences-within}
 use Rattle.report.specs.Emitting.{Readable}
 use Rattle.report.specs.Removed.{NonePrinting}
-use denote.Exit.{no, yes}
 use Rattle.report.proofs.repeated.printed_in.Given as goal
 
 -- No sentence before t is such.

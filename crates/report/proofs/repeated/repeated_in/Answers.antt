@@ -2,7 +2,6 @@
 use mathlib.Core.Bool.{false, false≢true, true, true≢false}
 use mathlib.Core.Path.{sym, ◌∙◌}
 use Rattle.cleaning.proofs.Meeting.{not_is}
-use denote.Exit.{no, yes}
 use Rattle.report.proofs.repeated.repeated_in.Goals as goal
 
 pub same_names-requires : goal.same_names-requires

@@ -5,8 +5,7 @@ use mathlib.Core.Path.{ap, ◌∙◌}
 use lib.ListN.{length}
 use Rattle.index.proofs.Functions.{function-room, name-at}
 use Rattle.text.proofs.Fill.{emitted-same}
-use Rattle.report.proofs.Places.{NamedAt, named-fits, function_of, named-at}
-use borrow.Author.Rules.{rules}
+use Rattle.report.proofs.Places.{named-fits, function_of, named-at}
 use Rattle.report.proofs.sentence.put_name.Goals as goal
 
 pub place_of-p-requires : goal.place_of-p-requires

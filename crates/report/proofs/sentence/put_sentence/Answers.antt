@@ -5,7 +5,6 @@ use Rattle.patterns.specs.Ascii.{ascii}
 use Rattle.meaning.specs.Text.{format_terms}
 use Rattle.text.proofs.Fill.{emitted-append}
 use Rattle.report.specs.Sentence.{sentence_text}
-use borrow.Author.Rules.{rules}
 use Rattle.report.proofs.sentence.put_sentence.Goals as goal
 
 -- GONE

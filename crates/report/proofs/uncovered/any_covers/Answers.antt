@@ -1,4 +1,4 @@
-use Prim.Native.Nat.{ℕ, suc, ◌+◌, ◌-◌, ◌<◌, ◌≤◌}
+use Prim.Native.Nat.{ℕ, suc, ◌+◌, ◌<◌, ◌≤◌}
 use native.Mathlib.Omega.{arith}
 use mathlib.Core.Path.{◌≡◌, sym, ap, ◌∙◌}
 use mathlib.Core.Bool.{Bool, true, ◌&&◌, not}
@@ -12,15 +12,14 @@ use Rattle.program.proofs.Own.{own-counted}
 use Rattle.told.specs.Calls.{is_listed}
 use Rattle.meaning.specs.Cleaning.{is_disjoint}
 use Rattle.told.specs.History.{is_there, after_all}
-use Rattle.cleaning.specs.Indexed.{fell_of, SomeBody}
-use Rattle.cleaning.specs.Room.{Used}
+use Rattle.cleaning.specs.Indexed.{fell_of}
 use Rattle.cleaning.specs.Walks.{Owns}
 use Rattle.cleaning.proofs.Owned.{before_most}
 use Rattle.cleaning.proofs.Room.{used_same, used_then}
 use Rattle.report.specs.Emitting.{Readable}
 use Rattle.report.proofs.Places.{sentence_of}
 use Rattle.report.proofs.RoomUsed.{used_keep, used_readable, used_site}
-use Rattle.report.proofs.UncoveredLists.{Uncovering, covering_first, covering_next, covering_found, covering_end}
+use Rattle.report.proofs.UncoveredLists.{covering_first, covering_next, covering_found, covering_end}
 use Rattle.report.proofs.uncovered.any_covers.Goals as goal
 
 pub overflow_add-f : goal.overflow_add-f

@@ -2,7 +2,7 @@
 use Prim.Native.Nat.{ℕ, ◌+◌, ◌<◌}
 use native.Mathlib.Omega.{arith}
 use mathlib.Core.Path.{◌≡◌, sym, ap, ◌∙◌}
-use mathlib.Core.Bool.{Bool, true, false, not}
+use mathlib.Core.Bool.{true, false, not}
 use lib.ListN.{length, get_or}
 use Rattle.patterns.specs.Search.{patterns_overlap}
 use Rattle.index.specs.Layout.{witnesses}
@@ -15,7 +15,6 @@ use Rattle.cleaning.proofs.Room.{used_same}
 use Rattle.cleaning.proofs.Witnesses.{unmet_before, met-itself}
 use Rattle.report.proofs.Places.{sentence_of, pattern-at}
 use Rattle.report.proofs.UncoveredLists.{covers_gone, covers_known, covers_asked}
-use borrow.Author.Rules.{rules}
 use Rattle.report.proofs.uncovered.covers.Goals as goal
 
 pub is_there-requires : goal.is_there-requires

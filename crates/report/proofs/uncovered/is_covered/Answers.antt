@@ -1,9 +1,6 @@
 -- `report::uncovered::is_covered` meets its contract. Assumes nothing.
-use mathlib.Core.Path.{sym, ap, ◌∙◌}
-use mathlib.Core.Bool.{not}
 use Rattle.cleaning.proofs.Meeting.{site-below}
 use Rattle.cleaning.proofs.Room.{used_same}
-use borrow.Author.Rules.{rules}
 use Rattle.report.proofs.uncovered.is_covered.Goals as goal
 
 pub is_witnessed-requires : goal.is_witnessed-requires

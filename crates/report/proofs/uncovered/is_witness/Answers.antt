@@ -8,7 +8,6 @@ use lib.ListN.{get_or}
 use Rattle.index.specs.Layout.{witnesses}
 use Rattle.cleaning.proofs.Meeting.{not_is}
 use Rattle.report.proofs.UncoveredLists.{covers_gone}
-use borrow.Author.Rules.{rules}
 use Rattle.report.proofs.uncovered.is_witness.Goals as goal
 
 pub returns-then-not-is_there : goal.returns-then-not-is_there

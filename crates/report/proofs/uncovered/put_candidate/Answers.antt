@@ -7,7 +7,6 @@ use Rattle.report.specs.Uncovered.{uncovered_one, last_uncovered}
 use Rattle.report.proofs.Telling.{listing-repeat, listing_new}
 use Rattle.report.proofs.UncoveredLists.{last-is}
 use Rattle.report.proofs.UncoveredLoops.{plain_here}
-use borrow.Author.Rules.{rules}
 use Rattle.report.proofs.uncovered.put_candidate.Goals as goal
 
 pub repeats_last-requires : goal.repeats_last-requires

@@ -1,8 +1,7 @@
 -- `report::uncovered::put_if_judged` meets its contract. Assumes nothing.
-use Prim.Native.Nat.{ℕ}
 use native.Mathlib.Omega.{arith}
 use mathlib.Core.Path.{sym, ◌∙◌}
-use mathlib.Core.Bool.{Bool, true, false}
+use mathlib.Core.Bool.{true, false}
 use Rattle.told.specs.Numbered.{sentences_before, sites_of}
 use Rattle.told.specs.History.{is_there, after_all}
 use Rattle.cleaning.specs.Indexed.{fell_of}
@@ -11,7 +10,6 @@ use Rattle.cleaning.proofs.Meeting.{not_is}
 use Rattle.cleaning.proofs.Room.{used_same}
 use Rattle.report.proofs.Telling.{only_judged, none_judged}
 use Rattle.report.proofs.UncoveredLoops.{uncovered-nothing, uncovered-same}
-use borrow.Author.Rules.{rules}
 use Rattle.report.proofs.uncovered.put_if_judged.Goals as goal
 
 pub is_judged-requires : goal.is_judged-requires

@@ -1,8 +1,7 @@
 -- `report::uncovered::put_if_uncovered` meets its contract. Assumes nothing.
-use Prim.Native.Nat.{ℕ}
 use native.Mathlib.Omega.{arith}
 use mathlib.Core.Path.{◌≡◌, sym, ap, ◌∙◌}
-use mathlib.Core.Bool.{Bool, true, false, not}
+use mathlib.Core.Bool.{true, false, not}
 use mathlib.Core.Option.{some}
 use lib.ListN.{get_elem?}
 use Rattle.program.specs.Syntax.{Function, Program}
@@ -16,7 +15,6 @@ use Rattle.report.specs.Emitting.{Readable}
 use Rattle.report.proofs.RoomUsed.{used_back, used_readable, used_site}
 use Rattle.report.proofs.UncoveredLists.{leading_there, not_leading, is_covered, is_candidate}
 use Rattle.report.proofs.UncoveredLoops.{uncovered-nothing, uncovered-same}
-use borrow.Author.Rules.{rules}
 use Rattle.report.proofs.uncovered.put_if_uncovered.Goals as goal
 
 pub leads-requires : goal.leads-requires

@@ -7,10 +7,8 @@ use Rattle.meaning.specs.Text.{format_terms}
 use Rattle.cleaning.proofs.Meeting.{pattern_part}
 use Rattle.text.proofs.Fill.{emitted-append, emitted-same}
 use Rattle.text.proofs.Formatting.{terms_text_fits}
-use Rattle.report.specs.Uncovered.{ArgumentAt}
 use Rattle.report.proofs.Places.{function_of, readable_part}
 use Rattle.report.proofs.UncoveredLists.{uncovered-text}
-use borrow.Author.Rules.{rules}
 use Rattle.report.proofs.uncovered.put_line.Goals as goal
 
 -- GONE

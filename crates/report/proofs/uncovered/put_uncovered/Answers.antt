@@ -1,4 +1,4 @@
-use Prim.Native.Nat.{ℕ, ◌+◌, ◌*◌, ◌-◌, ◌≤◌}
+use Prim.Native.Nat.{ℕ, ◌≤◌}
 use native.Mathlib.Omega.{arith}
 use mathlib.Core.Path.{ap}
 use mathlib.Core.Bool.{Bool}
@@ -8,7 +8,6 @@ use Rattle.told.specs.Numbered.{sentences_before, sites_of}
 use Rattle.meaning.specs.CleanReport.{same_uncovered}
 use Rattle.told.specs.History.{is_there, after_all}
 use Rattle.cleaning.specs.Indexed.{fell_of}
-use Rattle.cleaning.specs.Room.{Used}
 use Rattle.told.specs.ToldReport.{uncovered_told}
 use Rattle.cleaning.proofs.Room.{used_same, used_then}
 use Rattle.meaning.specs.Report.{uncovered_line}
@@ -20,7 +19,7 @@ use Rattle.report.proofs.Places.{function_of}
 use Rattle.report.proofs.RoomUsed.{used_back, used_keep, used_readable, used_some}
 use Rattle.report.proofs.Telling.{listing-from}
 use Rattle.report.proofs.UncoveredLists.{last_none, of_function}
-use Rattle.report.proofs.UncoveredLoops.{plain-none, uncovered-same, OverFunctions, over_first, over_next, over_end}
+use Rattle.report.proofs.UncoveredLoops.{plain-none, uncovered-same, over_first, over_next, over_end}
 use Rattle.report.proofs.uncovered.put_uncovered.Goals as goal
 
 pub loop-f-init : goal.loop-f-init

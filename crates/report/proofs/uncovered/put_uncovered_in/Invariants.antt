@@ -1,30 +1,15 @@
 -- `report::uncovered::put_uncovered_in` meets its contract. Assumes nothing.
-use Prim.Native.Nat.{ℕ, suc, ◌+◌, ◌-◌, ◌≤◌}
-use native.Mathlib.Omega.{arith}
-use mathlib.Core.Path.{◌≡◌, ap}
-use mathlib.Core.Bool.{Bool, true}
+use Prim.Native.Nat.{◌-◌, ◌≤◌}
+use mathlib.Core.Path.{◌≡◌}
 use mathlib.Core.Option.{some}
-use lib.ListN.{get_or, get_elem?}
+use lib.ListN.{get_elem?}
 use Rattle.program.specs.Syntax.{Function, Program}
-use Rattle.index.specs.Layout.{links}
-use Rattle.index.specs.First.{First}
-use Rattle.told.specs.Calls.{is_listed}
-use Rattle.index.specs.Links.{entry_next}
-use Rattle.told.specs.Numbered.{sentences_before, sites_of}
-use Rattle.index.proofs.First.{Element}
+use Rattle.told.specs.Numbered.{sentences_before}
 use Rattle.told.specs.History.{is_there, after_all}
 use Rattle.cleaning.specs.Indexed.{fell_of}
 use Rattle.cleaning.specs.Room.{Used}
-use Rattle.cleaning.proofs.Meeting.{site_element}
-use Rattle.cleaning.proofs.Room.{used_same, used_then}
-use Rattle.cleaning.proofs.Walking.{head_first}
-use Rattle.text.proofs.Fill.{emitted-length}
 use Rattle.report.specs.Emitting.{Readable}
-use Rattle.report.specs.Uncovered.{uncovered_at}
-use Rattle.report.proofs.Leaders.{next-listed}
-use Rattle.report.proofs.Places.{function_of}
-use Rattle.report.proofs.RoomUsed.{used_back, used_keep, used_next, used_readable}
-use Rattle.report.proofs.UncoveredLoops.{uncovered-same, OnSites, sites-first, sites-next, sites-end}
+use Rattle.report.proofs.UncoveredLoops.{OnSites}
 use Rattle.report.proofs.uncovered.put_uncovered_in.Given as goal
 
 -- The sites before i are told.

@@ -4,8 +4,6 @@ use Rattle.patterns.specs.Names.{eq_bytes}
 use Rattle.program.specs.Syntax.{Terms}
 use Rattle.meaning.specs.Text.{format_terms}
 use Rattle.cleaning.proofs.Meeting.{pattern_part}
-use Rattle.report.specs.Uncovered.{ArgumentAt}
-use borrow.Author.Rules.{rules}
 use Rattle.report.proofs.uncovered.same_argument.Goals as goal
 
 pub argument_of-p-requires : goal.argument_of-p-requires

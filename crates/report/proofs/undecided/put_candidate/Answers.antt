@@ -11,7 +11,6 @@ use Rattle.report.specs.Undecided.{undecided_one, last_undecided}
 use Rattle.report.proofs.Places.{function_of, sentence_of}
 use Rattle.report.proofs.Telling.{listing-repeat, listing_new}
 use Rattle.report.proofs.UndecidedLists.{last-is, undecided-text}
-use borrow.Author.Rules.{rules}
 use Rattle.report.proofs.undecided.put_candidate.Goals as goal
 
 pub repeats_last-requires : goal.repeats_last-requires

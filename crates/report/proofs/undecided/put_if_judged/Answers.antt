@@ -1,8 +1,8 @@
 -- `report::undecided::put_if_judged` meets its contract. Assumes nothing.
-use Prim.Native.Nat.{ℕ, suc}
+use Prim.Native.Nat.{suc}
 use native.Mathlib.Omega.{arith}
 use mathlib.Core.Path.{◌≡◌, sym, ◌∙◌}
-use mathlib.Core.Bool.{Bool, true, false}
+use mathlib.Core.Bool.{true, false}
 use mathlib.Core.Option.{some}
 use lib.ListN.{get_elem?}
 use Rattle.program.specs.Syntax.{Function, Program}
@@ -18,7 +18,6 @@ use Rattle.meaning.specs.Report.{undecided_line}
 use Rattle.report.specs.Emitting.{Readable}
 use Rattle.report.specs.Undecided.{last_undecided}
 use Rattle.report.proofs.Telling.{listing-nothing, listing-same, only_judged, none_judged}
-use borrow.Author.Rules.{rules}
 use Rattle.report.proofs.undecided.put_if_judged.Goals as goal
 
 pub is_judged-requires : goal.is_judged-requires

@@ -1,8 +1,7 @@
 -- `report::undecided::put_if_undecided` meets its contract. Assumes nothing.
-use Prim.Native.Nat.{ℕ}
 use native.Mathlib.Omega.{arith}
 use mathlib.Core.Path.{◌≡◌, sym, ◌∙◌}
-use mathlib.Core.Bool.{Bool, true, false}
+use mathlib.Core.Bool.{true, false}
 use Rattle.program.specs.Syntax.{Function, Program}
 use Rattle.program.specs.Sentences.{Sentence}
 use Rattle.meaning.specs.CleanReport.{same_undecided}
@@ -18,7 +17,6 @@ use Rattle.report.specs.Undecided.{last_undecided}
 use Rattle.report.proofs.Places.{owner_below, owned_below}
 use Rattle.report.proofs.Telling.{listing-nothing, listing-same}
 use Rattle.report.proofs.UndecidedLists.{not_open, is_open_lem}
-use borrow.Author.Rules.{rules}
 use Rattle.report.proofs.undecided.put_if_undecided.Goals as goal
 
 pub is_undecided-requires : goal.is_undecided-requires

@@ -1,6 +1,5 @@
-use Prim.Native.Nat.{ℕ, suc, ◌-◌, ◌≤◌}
+use Prim.Native.Nat.{ℕ, suc, ◌≤◌}
 use native.Mathlib.Omega.{arith}
-use mathlib.Core.Bool.{Bool}
 use mathlib.Core.List.{[]}
 use Rattle.program.specs.Syntax.{Program}
 use Rattle.program.proofs.Own.{own-counted}
@@ -18,7 +17,7 @@ use Rattle.report.specs.Undecided.{last_undecided}
 use Rattle.report.proofs.Places.{function_of}
 use Rattle.report.proofs.Telling.{listing-from}
 use Rattle.report.proofs.UndecidedLists.{last_none}
-use Rattle.report.proofs.UndecidedLoops.{OverFunctions, over_first, over_next, over_end}
+use Rattle.report.proofs.UndecidedLoops.{over_first, over_next, over_end}
 use Rattle.report.proofs.undecided.put_undecided.Goals as goal
 
 pub loop-f-init : goal.loop-f-init

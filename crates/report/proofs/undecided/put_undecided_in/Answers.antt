@@ -1,20 +1,16 @@
-use Prim.Native.Nat.{ℕ, suc, ◌+◌, ◌-◌, ◌<◌, ◌≤◌}
+use Prim.Native.Nat.{ℕ, suc, ◌+◌, ◌<◌}
 use native.Mathlib.Omega.{arith}
 use mathlib.Core.Path.{◌≡◌, ap, ◌∙◌}
-use mathlib.Core.Bool.{Bool}
-use mathlib.Core.Option.{some}
-use lib.ListN.{get_elem?}
-use Rattle.program.specs.Syntax.{Function, Program}
+use Rattle.program.specs.Syntax.{Program}
 use Rattle.program.proofs.Own.{own-counted}
 use Rattle.told.specs.Numbered.{sentences_before}
-use Rattle.index.proofs.First.{Element}
 use Rattle.told.specs.History.{is_there, after_all}
-use Rattle.cleaning.specs.Indexed.{fell_of, SomeBody}
+use Rattle.cleaning.specs.Indexed.{fell_of}
 use Rattle.cleaning.proofs.Owned.{before_most}
 use Rattle.text.proofs.Fill.{emitted-length}
 use Rattle.report.specs.Emitting.{Readable}
 use Rattle.report.proofs.Places.{function_of, sentence_of}
-use Rattle.report.proofs.UndecidedLoops.{InFunction, in_first, in_next, in_end}
+use Rattle.report.proofs.UndecidedLoops.{in_first, in_next, in_end}
 use Rattle.report.proofs.undecided.put_undecided_in.Goals as goal
 
 pub overflow_add-f : goal.overflow_add-f

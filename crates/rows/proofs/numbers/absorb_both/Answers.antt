@@ -1,5 +1,4 @@
 -- `rows::numbers::absorb_both` meets its contract.
-use borrow.Author.Rules.{rules}
 use Rattle.rows.proofs.numbers.absorb_both.Goals as goal
 
 pub returns : goal.returns

@@ -1,5 +1,4 @@
 -- `rows::numbers::absorb_first` meets its contract.
-use borrow.Author.Rules.{rules}
 use Rattle.rows.proofs.numbers.absorb_first.Goals as goal
 
 pub returns : goal.returns

@@ -4,7 +4,6 @@ use mathlib.Core.Path.{◌∙◌, ap}
 use Prim.Native.Nat.{ℕ, ◌+◌}
 use Rattle.rows.specs.Cells.{stopped, behind_of}
 use borrow.Author.Tests.{eq-eqb, ne_eqb}
-use borrow.Author.Rules.{rules}
 use Rattle.rows.proofs.numbers.behind.Goals as goal
 
 pub returns-then-v-eq1 : goal.returns-then-v-eq1

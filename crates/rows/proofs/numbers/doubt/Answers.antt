@@ -2,7 +2,6 @@
 use Rattle.rows.specs.Cells.{unsure}
 use native.Mathlib.Omega.{arith}
 use borrow.Author.Tests.{eq-eqb, ne_eqb}
-use borrow.Author.Rules.{rules}
 use Rattle.rows.proofs.numbers.doubt.Goals as goal
 
 pub returns-then-c-eq2 : goal.returns-then-c-eq2

@@ -1,5 +1,4 @@
 -- `rows::numbers::ends_column` meets its contract.
-use borrow.Author.Rules.{rules}
 use Rattle.rows.proofs.numbers.ends_column.Goals as goal
 
 pub returns : goal.returns

@@ -1,13 +1,12 @@
-use Prim.Native.Nat.{ℕ, ◌+◌, ◌-◌, ◌*◌, ◌<◌, ◌≤◌}
+use Prim.Native.Nat.{ℕ, ◌+◌, ◌-◌, ◌*◌, ◌<◌}
 use native.Mathlib.Omega.{arith}
 use mathlib.Core.Path.{◌≡◌, ◌∙◌, refl, ap, sym, subst}
 use mathlib.Core.Bool.{false≢true, true≢false}
 use lib.ListN.{length, get_or}
-use Rattle.rows.specs.Rows.{listed_at, behind_terms, Stands, Beside, RoomFor, RowRoom, Lists, read_at, Flat, HeadsTold, Kept}
+use Rattle.rows.specs.Rows.{listed_at, behind_terms, Stands, Beside, RoomFor, RowRoom, read_at, Flat, HeadsTold, Kept}
 use Rattle.rows.proofs.Places.{kept_then, kept_less, kept_same, place-absorbing, place-one, place-empty, place-some}
-use Rattle.rows.proofs.Filling.{Filling, filling_first, filling_stands, filling_beside, filling_room, filling_turn, filling_done, Tabling, lists_lie, listed-first, listed_now, lists_kept, told-before, room-kept, tabling_first, tabling_stands, tabling_size, tabling-above, tabling-turn, tabling_done, lists_room, both-listed, both_told, both_turned, both_some}
+use Rattle.rows.proofs.Filling.{filling_first, filling_stands, filling_beside, filling_room, filling_turn, filling_done, lists_lie, listed-first, listed_now, lists_kept, told-before, room-kept, tabling_first, tabling_stands, tabling_size, tabling-above, tabling-turn, tabling_done, lists_room, both-listed, both_told, both_turned, both_some}
 use Rattle.rows.proofs.Sizes.{stands-size, Inside, inside_at, brackets-told, listed-size}
-use borrow.Author.Tests.{not-true, not-false}
 use Rattle.patterns.specs.Search.{size}
 use Rattle.rows.proofs.Lists.{place_in}
 use Rattle.rows.proofs.Words.{told-some, absorbing-both, absorbing-first, absorbing-second, heads-both, closed_first, closed_second}

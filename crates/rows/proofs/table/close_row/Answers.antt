@@ -3,7 +3,7 @@ use native.Mathlib.Omega.{arith}
 use lib.ListN.{length}
 use Rattle.rows.specs.Rows.{listed_at, Stands, behind_terms}
 use Rattle.rows.proofs.Lists.{place_in}
-use Rattle.rows.proofs.Filling.{Closing, closing-first, closing-stands, closing-turn, closing-done}
+use Rattle.rows.proofs.Filling.{closing-first, closing-stands, closing-turn, closing-done}
 use Rattle.rows.proofs.table.close_row.Goals as goal
 
 pub loop-j-init : goal.loop-j-init

@@ -1,10 +1,6 @@
 -- `rows::table::close_row` meets its contract.
-use Prim.Native.Nat.{◌+◌, ◌-◌, ◌*◌, ◌<◌}
-use native.Mathlib.Omega.{arith}
-use lib.ListN.{length}
-use Rattle.rows.specs.Rows.{listed_at, Stands, behind_terms}
-use Rattle.rows.proofs.Lists.{place_in}
-use Rattle.rows.proofs.Filling.{Closing, closing-first, closing-stands, closing-turn, closing-done}
+use Rattle.rows.specs.Rows.{listed_at}
+use Rattle.rows.proofs.Filling.{Closing}
 use Rattle.rows.proofs.table.close_row.Given as goal
 
 abbrev pub invariant-loop-j : goal.invariant-loop-j

@@ -3,7 +3,6 @@ use native.Mathlib.Omega.{arith}
 use mathlib.Core.Path.{refl, sym, ◌∙◌}
 use mathlib.Core.Bool.{true, false}
 use Rattle.patterns.specs.Search.{literal_overlap}
-use borrow.Author.Rules.{rules}
 use Rattle.rows.proofs.Lists.{place_in}
 use Rattle.rows.proofs.Flat.{bracket_then_low, bracket_then_high, low_then_bracket, high_then_bracket, variable-first, variable-second, first-symbol, second-symbol, literals}
 use Rattle.rows.proofs.terms.flat_heads.Goals as goal

@@ -1,11 +1,10 @@
-use Prim.Native.Nat.{◌+◌, ◌-◌, ◌<◌, ◌≤◌}
+use Prim.Native.Nat.{◌+◌, ◌<◌, ◌≤◌}
 use native.Mathlib.Omega.{arith}
-use mathlib.Core.Path.{◌≡◌, refl, sym, ap, ◌∙◌}
+use mathlib.Core.Path.{refl, sym, ap, ◌∙◌}
 use lib.ListN.{length}
 use Rattle.program.specs.Limits.{Mode}
 use Rattle.patterns.specs.Search.{leftover_overlap}
 use Rattle.rows.specs.Cells.{ended_both}
-use Rattle.rows.specs.Rows.{read_at, PatternFrom}
 use Rattle.rows.proofs.Places.{reading_part, place-next, next-is}
 use Rattle.rows.proofs.Lists.{place_in, result-here, leftover_closed, leftover_absorbing, leftover_one, past_fits}
 use Rattle.rows.proofs.terms.leftover.Goals as goal

@@ -1,8 +1,7 @@
 -- `rows::terms::list_second` meets its contract. Assumes nothing.
-use Prim.Native.Nat.{ℕ, ◌-◌, ◌≤◌}
+use Prim.Native.Nat.{ℕ, ◌-◌}
 use native.Mathlib.Omega.{arith}
-use mathlib.Core.Path.{◌≡◌, sym, subst}
-use borrow.Author.Rules.{rules}
+use mathlib.Core.Path.{◌≡◌, subst}
 use Rattle.rows.specs.Rows.{read_at, Listed}
 use Rattle.rows.proofs.Places.{kept_same}
 use Rattle.rows.proofs.terms.list_second.Goals as goal

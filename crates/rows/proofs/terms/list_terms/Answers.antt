@@ -1,13 +1,12 @@
-use Prim.Native.Nat.{ℕ, ◌+◌, ◌-◌, ◌<◌, ◌≤◌}
+use Prim.Native.Nat.{ℕ, ◌+◌, ◌<◌, ◌≤◌}
 use native.Mathlib.Omega.{arith}
 use mathlib.Core.Path.{◌≡◌, refl, ap, ◌∙◌}
 use mathlib.Core.List.{List}
 use lib.ListN.{length, get_or, length-set}
 use Rattle.program.specs.Limits.{Mode}
 use Rattle.patterns.specs.Search.{size}
-use Rattle.rows.specs.Rows.{read_at, Kept}
 use Rattle.rows.proofs.Places.{reading_part, next-is, kept_same, kept_then}
-use Rattle.rows.proofs.Lists.{Listing, place_in, result-here, past_fits, kept_set, listing-first, listing-next, listing-done}
+use Rattle.rows.proofs.Lists.{place_in, result-here, past_fits, kept_set, listing-first, listing-next, listing-done}
 use Rattle.rows.proofs.Sizes.{place-size}
 use Rattle.rows.proofs.terms.list_terms.Goals as goal
 

@@ -4,7 +4,6 @@ use mathlib.Core.List.{[], ◌∷◌}
 use Rattle.text.proofs.Fill.{emitted-append}
 use Rattle.patterns.specs.Ascii.{ascii}
 use Rattle.text.specs.Counts.{counted, count_line}
-use borrow.Author.Rules.{rules}
 use Rattle.text.proofs.counts.put_count_line.Goals as goal
 
 pub returns : goal.returns

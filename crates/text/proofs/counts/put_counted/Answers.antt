@@ -4,7 +4,6 @@ use Rattle.text.proofs.Fill.{emitted-append}
 use Rattle.meaning.specs.Decimal.{decimal}
 use Rattle.meaning.proofs.Decimal.{decimal-length}
 use Rattle.text.specs.Counts.{counted}
-use borrow.Author.Rules.{rules}
 use Rattle.text.proofs.counts.put_counted.Goals as goal
 
 pub put_decimal-requires : goal.put_decimal-requires

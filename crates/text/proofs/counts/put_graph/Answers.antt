@@ -5,7 +5,6 @@ use Rattle.text.proofs.Fill.{emitted-append, emitted-same}
 use Rattle.patterns.specs.Ascii.{ascii}
 use Rattle.text.specs.Counts.{counted, clean_text}
 use Rattle.text.proofs.Pieces.{graph_empty, graph_untested, graph_perfect, graph_clean}
-use borrow.Author.Rules.{rules}
 use Rattle.text.proofs.counts.put_graph.Goals as goal
 
 -- GONE

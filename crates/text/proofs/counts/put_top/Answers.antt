@@ -4,7 +4,6 @@ use mathlib.Core.List.{◌++◌}
 use Rattle.text.proofs.Fill.{emitted-append}
 use Rattle.patterns.specs.Ascii.{ascii}
 use Rattle.text.specs.Counts.{counted, count_line, top_text}
-use borrow.Author.Rules.{rules}
 use Rattle.text.proofs.counts.put_top.Goals as goal
 
 -- GONE

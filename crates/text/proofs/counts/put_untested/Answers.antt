@@ -3,7 +3,6 @@ use mathlib.Core.List.{◌++◌}
 use Rattle.text.proofs.Fill.{emitted-append}
 use Rattle.patterns.specs.Ascii.{ascii}
 use Rattle.text.specs.Counts.{counted, untested_text}
-use borrow.Author.Rules.{rules}
 use Rattle.text.proofs.counts.put_untested.Goals as goal
 
 -- GONE

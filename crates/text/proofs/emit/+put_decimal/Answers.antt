@@ -1,7 +1,6 @@
-use Prim.Native.Nat.{ℕ, ◌/◌, ◌<◌}
+use Prim.Native.Nat.{◌/◌}
 use native.Mathlib.Omega.{arith}
 use mathlib.Core.List.{[], ◌∷◌}
-use borrow.Author.Rules.{rules}
 use Rattle.meaning.specs.Decimal.{decimal}
 use Rattle.text.proofs.Fill.{emitted-same, emitted-append}
 use Rattle.meaning.proofs.Decimal.{decimal-one, decimal-more, decimal_one_length, decimal_more_length}

@@ -1,9 +1,6 @@
-use Prim.Native.Nat.{◌+◌, ◌-◌, ◌≤◌}
 use native.Mathlib.Omega.{arith}
 use native.Mathlib.Nat.{add-zero}
-use lib.ListN.{length, take}
 use lib.Seq.{take_all}
-use Rattle.text.specs.Fill.{Emitted}
 use Rattle.text.proofs.Fill.{emitted-nothing, emitted-same, emitted-length, next_byte}
 use Rattle.text.proofs.emit.put_bytes.Goals as goal
 

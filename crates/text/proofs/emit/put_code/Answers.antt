@@ -3,7 +3,6 @@ use native.Mathlib.Omega.{arith}
 use mathlib.Core.List.{[], ◌∷◌}
 use Rattle.text.proofs.Fill.{emitted-same, emitted-append}
 use Rattle.text.proofs.Codes.{utf8-one, utf8-two, utf8_three, utf8_four}
-use borrow.Author.Rules.{rules}
 use Rattle.text.proofs.emit.put_code.Goals as goal
 
 pub returns-then-code-lt128 : goal.returns-then-code-lt128

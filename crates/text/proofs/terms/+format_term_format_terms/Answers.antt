@@ -1,17 +1,14 @@
-use Prim.Native.Nat.{ℕ, ◌+◌, ◌*◌, ◌<◌, ◌-◌, ◌≤◌}
+use Prim.Native.Nat.{ℕ, ◌+◌, ◌<◌, ◌≤◌}
 use native.Mathlib.Omega.{arith}
 use mathlib.Core.List.{[], ◌∷◌, ◌++◌, List}
-use borrow.Author.Rules.{rules}
 use Rattle.rows.proofs.Readings.{part_length, pattern-room, next-at, next_fits}
 use Rattle.meaning.specs.Text.{format_terms}
 use Rattle.text.proofs.Fill.{emitted-same, emitted-append}
 use Rattle.text.proofs.Formatting.{bracket_in, symbol_in, variable_in, terms_text_fits, Writing, writing-first, writing-next, writing-last, term_text_fits, gap_before-length}
 use lib.ListN.{length, get_or}
-use mathlib.Core.Path.{◌≡◌, refl, ◌∙◌}
+use mathlib.Core.Path.{refl, ◌∙◌}
 use Rattle.program.specs.Limits.{Mode}
-use Rattle.image.specs.Parts.{TermsAt}
 use Rattle.image.proofs.Readings.{result-at}
-use Rattle.text.specs.Fill.{limit}
 use Rattle.text.proofs.terms.+format_term_format_terms.Goals as goal
 
 -- Past a term of n bytes, whose text ends at q.

@@ -4,7 +4,6 @@ use mathlib.Core.List.{[], ◌∷◌, ◌++◌}
 use Rattle.meaning.specs.Text.{utf8, format_symbol}
 use Rattle.text.proofs.Fill.{emitted-same, emitted-append}
 use Rattle.text.proofs.Leaves.{utf8-length}
-use borrow.Author.Rules.{rules}
 use Rattle.text.proofs.terms.format_character.Goals as goal
 
 pub put_byte-requires : goal.put_byte-requires

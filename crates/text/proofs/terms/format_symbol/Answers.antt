@@ -7,7 +7,6 @@ use Rattle.symbols.proofs.Parts.{symbol-room}
 use Rattle.meaning.specs.Text.{format_symbol}
 use Rattle.text.proofs.Fill.{emitted-same}
 use Rattle.text.proofs.Leaves.{code_in, name_in}
-use borrow.Author.Rules.{rules}
 use Rattle.text.proofs.terms.format_symbol.Goals as goal
 
 pub bounds-s-0 : goal.bounds-s-0

@@ -6,7 +6,6 @@ use lib.ListN.{length}
 use Rattle.meaning.specs.Text.{format_kind}
 use Rattle.text.proofs.Fill.{emitted-same, emitted-append}
 use Rattle.text.proofs.Leaves.{variable-name, variable-fits, variable-text}
-use borrow.Author.Rules.{rules}
 use Rattle.text.proofs.terms.format_variable.Goals as goal
 
 pub bounds-s-0 : goal.bounds-s-0

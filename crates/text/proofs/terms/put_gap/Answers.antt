@@ -4,7 +4,6 @@ use borrow.Author.Tests.{eq-eqb, ne_eqb}
 use Rattle.patterns.specs.Ascii.{ascii}
 use Rattle.text.specs.FormatTerm.{gap_before}
 use Rattle.text.proofs.Fill.{emitted-nothing, emitted-same}
-use borrow.Author.Rules.{rules}
 use Rattle.text.proofs.terms.put_gap.Goals as goal
 
 pub returns-then-mark-eq15 : goal.returns-then-mark-eq15

@@ -1,13 +1,11 @@
-use Prim.Native.Nat.{◌-◌, ◌≤◌}
+use Prim.Native.Nat.{◌-◌}
 use native.Mathlib.Omega.{arith}
-use borrow.Author.Rules.{rules}
 use lib.ListN.{length, get_or, take, drop}
 use Rattle.symbols.proofs.Parts.{part_rest}
 use Rattle.meaning.proofs.Inputs.{tokens_of}
 use Rattle.text.proofs.Fill.{emitted-length}
-use Rattle.values.specs.Values.{LevelAt}
 use Rattle.values.proofs.Turns.{part_there, part_length, last-yes, last-no, depth_small}
-use Rattle.values.proofs.Expressions.{Wrote, wrote_first, wrote_more, token-at, token-room, closed_here, ended_here, level-written}
+use Rattle.values.proofs.Expressions.{wrote_first, wrote_more, token-at, token-room, closed_here, ended_here, level-written}
 use Rattle.values.proofs.levels.put_value.Goals as goal
 
 pub loop-i-init : goal.loop-i-init

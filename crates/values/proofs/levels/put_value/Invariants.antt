@@ -1,14 +1,9 @@
 -- `values::levels::put_value` meets its contract. The invariant: what is written, and what is left of the level with zero spans, are the whole of it.
 use Prim.Native.Nat.{◌-◌, ◌≤◌}
-use native.Mathlib.Omega.{arith}
-use borrow.Author.Rules.{rules}
-use lib.ListN.{length, get_or, take, drop}
-use Rattle.symbols.proofs.Parts.{part_rest}
+use lib.ListN.{length}
 use Rattle.meaning.proofs.Inputs.{tokens_of}
-use Rattle.text.proofs.Fill.{emitted-length}
 use Rattle.values.specs.Values.{LevelAt}
-use Rattle.values.proofs.Turns.{part_there, part_length, last-yes, last-no, depth_small}
-use Rattle.values.proofs.Expressions.{Wrote, wrote_first, wrote_more, token-at, token-room, closed_here, ended_here, level-written}
+use Rattle.values.proofs.Expressions.{Wrote}
 use Rattle.values.proofs.levels.put_value.Given as goal
 
 abbrev pub invariant-loop-i : goal.invariant-loop-i

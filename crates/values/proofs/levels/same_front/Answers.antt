@@ -1,14 +1,11 @@
-use Prim.Native.Nat.{◌-◌, ◌≤◌}
+use Prim.Native.Nat.{◌-◌}
 use mathlib.Core.List.{[]}
 use native.Mathlib.Omega.{arith}
 use mathlib.Core.Path.{sym, ◌∙◌}
-use borrow.Author.Rules.{rules}
-use borrow.Author.Tests.{not-true, not-false}
 use lib.ListN.{length, take, drop}
 use Rattle.symbols.proofs.Parts.{part_rest}
 use Rattle.meaning.proofs.Inputs.{tokens_of}
-use Rattle.values.specs.Values.{ValueAt, LevelAt}
-use Rattle.values.proofs.Expressions.{Stepped, stepped_first, stepped_short, stepped_off, stepped_on, front-nowhere, front_until, token-at, token-room, value-tokens}
+use Rattle.values.proofs.Expressions.{stepped_first, stepped_short, stepped_off, stepped_on, front-nowhere, front_until, token-at, token-room, value-tokens}
 use Rattle.values.proofs.levels.same_front.Goals as goal
 
 pub loop-i-init : goal.loop-i-init

@@ -1,15 +1,10 @@
 -- `values::levels::same_front` meets its contract. The invariant: what is left of both goes on in step as the wholes do.
 use Prim.Native.Nat.{◌-◌, ◌≤◌}
 use mathlib.Core.List.{[]}
-use native.Mathlib.Omega.{arith}
-use mathlib.Core.Path.{sym, ◌∙◌}
-use borrow.Author.Rules.{rules}
-use borrow.Author.Tests.{not-true, not-false}
-use lib.ListN.{length, take, drop}
-use Rattle.symbols.proofs.Parts.{part_rest}
+use lib.ListN.{length}
 use Rattle.meaning.proofs.Inputs.{tokens_of}
 use Rattle.values.specs.Values.{ValueAt, LevelAt}
-use Rattle.values.proofs.Expressions.{Stepped, stepped_first, stepped_short, stepped_off, stepped_on, front-nowhere, front_until, token-at, token-room, value-tokens}
+use Rattle.values.proofs.Expressions.{Stepped}
 use Rattle.values.proofs.levels.same_front.Given as goal
 
 abbrev pub invariant-loop-i : goal.invariant-loop-i

@@ -1,6 +1,5 @@
 -- `values::levels::same_values` meets its contract. Assumes nothing.
 use mathlib.Core.Path.{subst}
-use borrow.Author.Rules.{rules}
 use Rattle.meaning.proofs.Fronts.{rest_after}
 use Rattle.values.specs.Values.{FrontOf}
 use Rattle.values.proofs.Expressions.{value-level, same_until, same-nowhere}

@@ -1,6 +1,5 @@
 -- `values::levels::term_end` meets its contract. Assumes nothing.
 use native.Mathlib.Omega.{arith}
-use borrow.Author.Rules.{rules}
 use Rattle.symbols.proofs.Parts.{part_rest}
 use Rattle.values.proofs.Expressions.{term_there, term_no_close, inside_at, bracket-room, bracket-short, bracket-length, symbol-length, token-first}
 use Rattle.values.proofs.levels.term_end.Goals as goal

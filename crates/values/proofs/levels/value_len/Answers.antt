@@ -1,12 +1,10 @@
-use Prim.Native.Nat.{◌-◌, ◌≤◌}
+use Prim.Native.Nat.{◌-◌}
 use native.Mathlib.Omega.{arith}
-use borrow.Author.Rules.{rules}
 use lib.ListN.{length, get_or, take, drop}
 use Rattle.symbols.proofs.Parts.{part_rest}
 use Rattle.meaning.proofs.Inputs.{tokens_of}
-use Rattle.values.specs.Values.{LevelAt}
 use Rattle.values.proofs.Turns.{part_there, last-yes, last-no, depth_small}
-use Rattle.values.proofs.Expressions.{Passed, passed_first, passed_more, token-at, token-room, closed_here, ended_here, level-ends}
+use Rattle.values.proofs.Expressions.{passed_first, passed_more, token-at, token-room, closed_here, ended_here, level-ends}
 use Rattle.values.proofs.levels.value_len.Goals as goal
 
 pub loop-at-init : goal.loop-at-init

@@ -1,12 +1,9 @@
-use Prim.Native.Nat.{◌*◌, ◌-◌, ◌≤◌}
+use Prim.Native.Nat.{◌-◌}
 use native.Mathlib.Omega.{arith}
-use borrow.Author.Rules.{rules}
 use lib.ListN.{length, get_or, take, drop}
 use Rattle.symbols.proofs.Parts.{part_rest}
-use Rattle.meaning.specs.Inputs.{answers_of}
 use Rattle.meaning.proofs.Tokens.{answered}
-use Rattle.values.specs.Values.{is_read}
-use Rattle.values.proofs.Turns.{Left, answers-start, left_end, left-none, left-next, size-within, part_there, answered_next}
+use Rattle.values.proofs.Turns.{answers-start, left_end, left-none, left-next, size-within, part_there, answered_next}
 use Rattle.values.proofs.Bytes.{owed-room}
 use Rattle.values.proofs.read.answers_fit.Goals as goal
 

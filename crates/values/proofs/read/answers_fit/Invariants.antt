@@ -1,14 +1,10 @@
 -- `values::read::answers_fit` meets its contract. The invariant: the tokens left, with as many closes owed, answer as the whole.
 use Prim.Native.Nat.{◌*◌, ◌-◌, ◌≤◌}
-use native.Mathlib.Omega.{arith}
-use borrow.Author.Rules.{rules}
-use lib.ListN.{length, get_or, take, drop}
-use Rattle.symbols.proofs.Parts.{part_rest}
+use lib.ListN.{length}
 use Rattle.meaning.specs.Inputs.{answers_of}
 use Rattle.meaning.proofs.Tokens.{answered}
 use Rattle.values.specs.Values.{is_read}
-use Rattle.values.proofs.Turns.{Left, answers-start, left_end, left-none, left-next, size-within, part_there, answered_next}
-use Rattle.values.proofs.Bytes.{owed-room}
+use Rattle.values.proofs.Turns.{Left}
 use Rattle.values.proofs.read.answers_fit.Given as goal
 
 abbrev pub invariant-loop-at : goal.invariant-loop-at

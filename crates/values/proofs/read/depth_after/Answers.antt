@@ -1,6 +1,5 @@
 -- `values::read::depth_after` meets its contract. Assumes nothing.
 use native.Mathlib.Omega.{arith}
-use borrow.Author.Rules.{rules}
 use Rattle.values.proofs.Turns.{depth_opening, depth_closing, depth_other}
 use Rattle.values.proofs.read.depth_after.Goals as goal
 

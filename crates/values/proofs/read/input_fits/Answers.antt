@@ -1,12 +1,9 @@
-use Prim.Native.Nat.{◌-◌, ◌≤◌}
+use Prim.Native.Nat.{◌-◌}
 use native.Mathlib.Omega.{arith}
-use borrow.Author.Rules.{rules}
 use lib.ListN.{length, get_or, take, drop}
 use Rattle.symbols.proofs.Parts.{part_rest}
-use Rattle.meaning.specs.Inputs.{input_of}
 use Rattle.meaning.proofs.Tokens.{balanced}
-use Rattle.values.specs.Values.{is_read}
-use Rattle.values.proofs.Turns.{Left, input-start, left_end, left-none, left-next, left_false, size-within, part_there, last-yes, last-no, depth_small, balanced_next, balanced_closed}
+use Rattle.values.proofs.Turns.{input-start, left_end, left-none, left-next, left_false, size-within, part_there, last-yes, last-no, depth_small, balanced_next, balanced_closed}
 use Rattle.values.proofs.read.input_fits.Goals as goal
 
 pub loop-at-init : goal.loop-at-init

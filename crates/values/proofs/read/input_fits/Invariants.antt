@@ -1,13 +1,10 @@
 -- `values::read::input_fits` meets its contract. The invariant: the tokens left, with as many brackets open, answer as the whole.
 use Prim.Native.Nat.{◌-◌, ◌≤◌}
-use native.Mathlib.Omega.{arith}
-use borrow.Author.Rules.{rules}
-use lib.ListN.{length, get_or, take, drop}
-use Rattle.symbols.proofs.Parts.{part_rest}
+use lib.ListN.{length}
 use Rattle.meaning.specs.Inputs.{input_of}
 use Rattle.meaning.proofs.Tokens.{balanced}
 use Rattle.values.specs.Values.{is_read}
-use Rattle.values.proofs.Turns.{Left, input-start, left_end, left-none, left-next, left_false, size-within, part_there, last-yes, last-no, depth_small, balanced_next, balanced_closed}
+use Rattle.values.proofs.Turns.{Left}
 use Rattle.values.proofs.read.input_fits.Given as goal
 
 abbrev pub invariant-loop-at : goal.invariant-loop-at

@@ -2,7 +2,6 @@
 use Prim.Native.Nat.{max}
 use native.Mathlib.Omega.{arith}
 use mathlib.Core.Path.{◌≡◌}
-use mathlib.Core.Logic.{⊎_elim}
 use Rattle.values.proofs.Turns.{owed-opening, owed-closing, owed-other}
 use Rattle.values.proofs.read.owed_after.Goals as goal
 use Rattle.values.proofs.read.owed_after.Goals.{then-owed-eq0, else-owed-eq0}

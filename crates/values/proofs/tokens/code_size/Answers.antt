@@ -1,5 +1,4 @@
 -- `values::tokens::code_size` meets its contract. Assumes nothing.
-use borrow.Author.Rules.{rules}
 use Rattle.meaning.specs.Inputs.{code_fits}
 use Rattle.reader.specs.Steps.{code_refusal}
 use Rattle.values.proofs.Sizes.{code-told, fits-yes, fits-no, pick_yes, pick_no}

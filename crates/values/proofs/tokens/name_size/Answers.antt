@@ -1,7 +1,6 @@
 -- `values::tokens::name_size` meets its contract. Assumes nothing.
 use Prim.Native.Nat.{ℕ, ◌+◌}
 use mathlib.Core.Path.{ap, ◌∙◌}
-use borrow.Author.Rules.{rules}
 use lib.ListN.{get_or}
 use Rattle.meaning.specs.Inputs.{name_fits}
 use Rattle.reader.specs.Steps.{name_refusal}

@@ -1,7 +1,6 @@
 -- `values::tokens::put_token` meets its contract. Assumes nothing.
 use native.Mathlib.Omega.{arith}
 use mathlib.Core.List.{[], ◌∷◌}
-use borrow.Author.Rules.{rules}
 use lib.ListN.{get_or, length-take}
 use Rattle.text.proofs.Fill.{emitted-same, emitted-append}
 use Rattle.values.proofs.Bytes.{by_mark, room, token-written, close-written}

@@ -2,7 +2,6 @@
 use Prim.Native.Nat.{ℕ, ◌+◌}
 use native.Mathlib.Omega.{arith}
 use mathlib.Core.Path.{ap, ◌∙◌}
-use borrow.Author.Rules.{rules}
 use Rattle.values.proofs.Bytes.{by_mark, room}
 use Rattle.values.proofs.tokens.token_len.Goals as goal
 

@@ -1,6 +1,5 @@
 -- `values::tokens::token_size` meets its contract. Assumes nothing.
 use mathlib.Core.Path.{◌∙◌}
-use borrow.Author.Rules.{rules}
 use Rattle.meaning.specs.Inputs.{span_fits}
 use Rattle.meaning.proofs.Tokens.{span-room}
 use Rattle.reader.specs.Steps.{span_refusal}

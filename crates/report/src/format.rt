@@ -133,7 +133,7 @@ fn write_lists<'b, 'c, 'a>(
     w: &mut Writer<'a>,
 )
     requires { SomeReporting b.now work.old plan rounds figures × (rounds < 4096) × (w.old.filled ≤ 1000) }
-    ensures { ((p : Program) → Reporting b.now p work.old plan rounds figures → w.new ≡ written w.old (listed_text p root (fell_of plan work.old) rounds)) × (w.new.filled ≤ 1000000001000000000) × Used plan work.old work.new × (w.new.text.ghost_name ≡ w.old.text.ghost_name) }
+    ensures { ((p : Program) → Reporting b.now p work.old plan rounds figures → w.new ≡ written w.old (listed_text p root (fell_of plan work.old) rounds)) × (w.new.filled ≤ 1000000001000000000) × Used plan work.old work.new }
 {
     let at = w.filled;
     let next = put_listed(b, work, plan, root, rounds, figures, &mut *w.text, at);

@@ -30,6 +30,7 @@ pub fn write_top<'a>(
     w.filled = next;
 }
 
+// The same, of a writer by value; so are the other two below.
 pub fn with_top<'a>(
     w: Writer<'a>,
     functions: usize,

@@ -4,7 +4,7 @@
 #
 #   sh tools/hands.sh
 #
-# Needs target/staticlib/libcleaner.a (`rt staticlib cleaner`), cc, c++, cargo and python3. Nothing is fetched.
+# Needs target/staticlib/libcleaner.a (`sh tools/archive.sh`), cc, c++, cargo and python3. Nothing is fetched.
 # A step that this machine cannot take is told as left out. The last line says how many failed; so does the status.
 set -u
 
@@ -12,7 +12,7 @@ root=$(cd "$(dirname "$0")/.." && pwd)
 cd "$root" || exit 2
 archive=$root/target/staticlib/libcleaner.a
 if [ ! -f "$archive" ]; then
-    echo "there is no $archive: run \`rt staticlib cleaner\` first" >&2
+    echo "there is no $archive: run \`sh tools/archive.sh\` first" >&2
     exit 2
 fi
 here=$(mktemp -d)
@@ -111,7 +111,7 @@ else
     left_out "clippy and layout"
 fi
 without_archive() {
-    SHOWCLEAN_LIBRARY=$here CARGO_TARGET_DIR=$here/none ends 101 "run \`rt staticlib cleaner\`" \
+    SHOWCLEAN_LIBRARY=$here CARGO_TARGET_DIR=$here/none ends 101 "run \`sh tools/archive.sh\`" \
         cargo build -q --manifest-path bindings/rust/Cargo.toml
 }
 step "without the archive the build says what to run" without_archive
@@ -255,7 +255,7 @@ readme_steps() {
     mkdir "$here/reader" && ln -s "$root/bindings" "$here/reader/bindings" && cd "$here/reader" || return 1
     awk '/^## /{ inside = /^## Your first program/ } inside && /^    /{ print substr($0, 5) }' "$root/README.md" > steps
     grep -q 'refal clean swan.image cleaned.image' steps || { echo "README has no steps"; return 1; }
-    grep -v '^rt ' steps | sh -e > said || { cat said; return 1; }
+    grep -v '^sh tools/' steps | sh -e > said || { cat said; return 1; }
     for words in 'removed: 1' 'graph: perfect' '-Dark s.Time' 'sentence 3, line 9' 'Cold s.Time = '; do
         grep -qF -- "$words" said || { cat said; echo "no step says: $words"; return 1; }
     done

@@ -23,7 +23,7 @@ def build(name, library):
     folder = folder_of(name)
     folder.mkdir(parents=True, exist_ok=True)
     if library is None:
-        called(["rt", "staticlib", "cleaner"])
+        called(["sh", "tools/archive.sh"])
         library = ROOT / "target" / "staticlib"
     called(["sh", "tools/oracle/build.sh", str(REFERENCE), str(folder)])
     parts = [TOOLS / "oracle" / "main.rs", TOOLS / "exported.rs"]

@@ -1,4 +1,4 @@
-/* The show cleaner as C functions: link with target/staticlib/libcleaner.a, which `rt staticlib cleaner` builds.
+/* The show cleaner as C functions: link with target/staticlib/libcleaner.a, which `sh tools/archive.sh` builds.
    Every call on any bytes, numbers and lengths ends; the answer is one 64-bit number.
 
    What the caller owes, since no proof reaches into C:

@@ -1,4 +1,4 @@
-//! Links the archive that `rt staticlib cleaner` leaves in target/staticlib of the repository.
+//! Links the archive that `sh tools/archive.sh` leaves in target/staticlib of the repository.
 use std::env;
 use std::path::{Path, PathBuf};
 
@@ -38,7 +38,7 @@ fn trouble(archive: &Path) -> Option<String> {
     }
     if !archive.is_file() {
         return Some(format!(
-            "there is no {}: run `rt staticlib cleaner` in the repository's root first (it proves every crate, 7 minutes of processor time), or set {ELSEWHERE} to a folder with {ARCHIVE}",
+            "there is no {}: run `sh tools/archive.sh` in the repository's root first (it proves every crate, 7 minutes of processor time), or set {ELSEWHERE} to a folder with {ARCHIVE}",
             archive.display()
         ));
     }

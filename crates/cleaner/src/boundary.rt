@@ -18,13 +18,7 @@ fn pack(number: u64, middle: u64, rest: u64) -> u64
 }
 
 // Clean: the middle is the length of the output, the rest the report's; or number and place.
-#[unsafe(no_mangle)]
-pub extern "C" fn showclean_clean(
-    img: &[u8],
-    output: &mut [u8],
-    work: &mut [u32],
-    report: &mut [u8],
-) -> u64
+pub fn showclean_clean(img: &[u8], output: &mut [u8], work: &mut [u32], report: &mut [u8]) -> u64
     ensures answered { result ≡ pack_clean (clean_answer img.now (lending output.old work.old report.old)).answer }
     ensures outputs { output.new ≡ (clean_answer img.now (lending output.old work.old report.old)).lent.output }
     ensures works { work.new ≡ (clean_answer img.now (lending output.old work.old report.old)).lent.work }
@@ -50,8 +44,7 @@ fn verdict_number(verdict: Verdict) -> u64
 }
 
 // Overlap: the middle is the verdict, the rest the entries spent; or number and place.
-#[unsafe(no_mangle)]
-pub extern "C" fn showclean_overlap(img: &[u8], first: usize, second: usize) -> u64
+pub fn showclean_overlap(img: &[u8], first: usize, second: usize) -> u64
     ensures { result ≡ pack_overlap (overlap_answer img.now first second) }
 {
     let answer = overlap(img, first, second);
@@ -66,8 +59,7 @@ pub extern "C" fn showclean_overlap(img: &[u8], first: usize, second: usize) -> 
 
 // Overlap with an expression: the middle is the verdict and four times the entries spent, the rest the length; or number and
 // place.
-#[unsafe(no_mangle)]
-pub extern "C" fn showclean_overlap_expression(
+pub fn showclean_overlap_expression(
     img: &[u8],
     first: usize,
     second: usize,

@@ -1,7 +1,7 @@
 // The entry points: every image and number is answered, and nothing is asked of the caller.
 #![tactic(auto)]
 
-mod boundary;
+pub mod boundary;
 mod delivery;
 mod rounds;
 mod shared;

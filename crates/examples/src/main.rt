@@ -1,16 +1,16 @@
 // Cleans the image of each example of data/, compares the report with the stored one, and the image with the text.
 #![tactic(auto)]
 
-mod text;
+mod notation_text;
 
-ghost use Rattle.io.specs.Counts.{IsPrefixLen};
+ghost use Rattle.std.specs.Prelude.{IfOk};
+ghost use Rattle.streams.specs.Counts.{IsPrefixLen};
 
 use answers::CleanAnswer;
-use libc::STDOUT_FILENO;
-
-fn wide(x: u8) -> u64 {
-    x as u64
-}
+use std::io::ErrorKind;
+use std::rt::Files;
+use std::{fs, io};
+use streams::read_full;
 
 // No more than the text holds.
 fn within(n: usize, text: &[u8]) -> usize
@@ -20,52 +20,47 @@ fn within(n: usize, text: &[u8]) -> usize
 }
 
 // Reads the file of that name into buf: its length, 0 where there is no such file.
-fn read_file(name: &[u8], buf: &mut [u8]) -> usize
-    ensures { IsPrefixLen result buf.new }
+fn read_file(rt: &impl Files, name: &str, buf: &mut [u8]) -> io::Result<usize>
+    ensures { IfOk result (λ n. IsPrefixLen n buf.new) }
 {
-    let fd = os::open_read(name);
-    let n = io::read_full(fd, buf);
-    libc::close(fd);
-    n
-}
-
-fn print_refusal(number: u8, place: usize) {
-    io::write_all(STDOUT_FILENO, b": refused ");
-    io::print_decimal(STDOUT_FILENO, wide(number));
-    io::write_all(STDOUT_FILENO, b" at ");
-    io::print_decimal(STDOUT_FILENO, place as u64);
-    io::write_all(STDOUT_FILENO, b"\n");
-}
-
-// A report that differs is printed, so that a reader of the test sees how.
-fn print_compared(report: &[u8], stored: &[u8]) {
-    if symbols::same_bytes(report, stored) {
-        io::write_all(STDOUT_FILENO, b": report as stored\n");
-    } else {
-        io::write_all(STDOUT_FILENO, b": report differs\n");
-        io::write_all(STDOUT_FILENO, report);
+    match fs::open(rt, name) {
+        Ok(mut file) => read_full(&mut file, buf),
+        Err(e) if e.kind() == ErrorKind::NotFound => Ok(0),
+        Err(e) => Err(e),
     }
 }
 
-fn print_answer(a: CleanAnswer, report: &[u8], stored: &[u8]) {
+fn print_refusal(rt: &impl Print, number: u8, place: usize) -> io::Result<()> {
+    println!(rt; ": refused {number} at {place}")
+}
+
+// A report that differs is printed, so that a reader of the test sees how.
+fn print_compared(rt: &impl Print, report: &[u8], stored: &[u8]) -> io::Result<()> {
+    if symbols::same_bytes(report, stored) {
+        println!(rt; ": report as stored")
+    } else {
+        println!(rt; ": report differs")?;
+        rt.write_all(report)
+    }
+}
+
+fn print_answer(rt: &impl Print, a: CleanAnswer, report: &[u8], stored: &[u8]) -> io::Result<()> {
     match a {
         CleanAnswer::Cleaned(n) => {
             let k = within(n.report, report);
-            print_compared(&report[..k], stored);
+            print_compared(rt, &report[..k], stored)
         }
-        CleanAnswer::Refused(r) => {
-            print_refusal(r.number, r.place);
-        }
+        CleanAnswer::Refused(r) => print_refusal(rt, r.number, r.place),
     }
 }
 
 // Any image is lent enough output and work, and as much report as showclean lends.
-fn clean_and_compare(img: &[u8], stored: &[u8]) {
-    let mut output = io::large_buffer();
+fn clean_and_compare(rt: &impl Print, img: &[u8], stored: &[u8]) -> io::Result<()> {
+    let mut output = [0u8; 65536];
     let mut work = [0u32; 8192];
     let mut report = [0u8; 32768];
     let a = cleaner::clean(img, &mut output, &mut work, &mut report);
-    print_answer(a, &report, stored);
+    print_answer(rt, a, &report, stored)
 }
 
 // The body of an image is all but its trailer.
@@ -73,58 +68,69 @@ fn less_trailer(n: usize) -> usize {
     if n < 12 { 0 } else { n - 12 }
 }
 
-fn print_spelled(img: &[u8], text: &[u8]) {
+fn print_spelled(rt: &impl Print, img: &[u8], text: &[u8]) -> io::Result<()> {
     let n = within(less_trailer(img.len()), img);
-    if text::is_spelled(&img[..n], text) {
-        io::write_all(STDOUT_FILENO, b": text as in the image\n");
+    if notation_text::is_spelled(&img[..n], text) {
+        println!(rt; ": text as in the image")
     } else {
-        io::write_all(STDOUT_FILENO, b": text differs from the image\n");
+        println!(rt; ": text differs from the image")
     }
 }
 
-fn replay(name: &[u8], image_name: &[u8], report_name: &[u8], text_name: &[u8]) {
-    let mut img = io::large_buffer();
-    let mut other = io::large_buffer();
-    let n = read_file(image_name, &mut img);
-    let k = read_file(report_name, &mut other);
-    io::write_all(STDOUT_FILENO, name);
-    clean_and_compare(&img[..n], &other[..k]);
-    let l = read_file(text_name, &mut other);
-    io::write_all(STDOUT_FILENO, name);
-    print_spelled(&img[..n], &other[..l]);
+fn replay(
+    rt: &(impl Files + Print),
+    name: &str,
+    image_name: &str,
+    report_name: &str,
+    text_name: &str,
+) -> io::Result<()> {
+    let mut img = [0u8; 65536];
+    let mut other = [0u8; 65536];
+    let n = read_file(rt, image_name, &mut img)?;
+    let k = read_file(rt, report_name, &mut other)?;
+    rt.print(name)?;
+    clean_and_compare(rt, &img[..n], &other[..k])?;
+    let l = read_file(rt, text_name, &mut other)?;
+    rt.print(name)?;
+    print_spelled(rt, &img[..n], &other[..l])
 }
 
 // In the order of data/README.md.
-fn main() {
-    replay(b"worked", b"worked.image", b"worked.report", b"worked.ref");
+fn main(rt: HostRuntime) -> io::Result<()> {
+    replay(&rt, "worked", "worked.image", "worked.report", "worked.ref")?;
     replay(
-        b"removed",
-        b"removed.image",
-        b"removed.report",
-        b"removed.ref",
-    );
+        &rt,
+        "removed",
+        "removed.image",
+        "removed.report",
+        "removed.ref",
+    )?;
     replay(
-        b"cascade",
-        b"cascade.image",
-        b"cascade.report",
-        b"cascade.ref",
-    );
+        &rt,
+        "cascade",
+        "cascade.image",
+        "cascade.report",
+        "cascade.ref",
+    )?;
     replay(
-        b"undecided",
-        b"undecided.image",
-        b"undecided.report",
-        b"undecided.ref",
-    );
+        &rt,
+        "undecided",
+        "undecided.image",
+        "undecided.report",
+        "undecided.ref",
+    )?;
     replay(
-        b"uncovered",
-        b"uncovered.image",
-        b"uncovered.report",
-        b"uncovered.ref",
-    );
+        &rt,
+        "uncovered",
+        "uncovered.image",
+        "uncovered.report",
+        "uncovered.ref",
+    )?;
     replay(
-        b"dispatch",
-        b"dispatch.image",
-        b"dispatch.report",
-        b"dispatch.ref",
-    );
+        &rt,
+        "dispatch",
+        "dispatch.image",
+        "dispatch.report",
+        "dispatch.ref",
+    )
 }

@@ -3,42 +3,28 @@
 #![tactic(auto)]
 
 use answers::OverlapAnswer;
-use libc::{STDIN_FILENO, STDOUT_FILENO};
 use patterns::Verdict;
+use std::io;
+use std::io::Input;
+use streams::read_full;
 
-fn wide(x: u8) -> u64 {
-    x as u64
-}
-
-fn print_verdict(v: Verdict) {
+fn print_verdict(rt: &impl Print, v: Verdict) -> io::Result<()> {
     match v {
-        Verdict::Disjoint => {
-            io::write_all(STDOUT_FILENO, b"disjoint, spent ");
-        }
-        Verdict::Overlap => {
-            io::write_all(STDOUT_FILENO, b"overlap, spent ");
-        }
-        Verdict::Unknown => {
-            io::write_all(STDOUT_FILENO, b"unknown, spent ");
-        }
+        Verdict::Disjoint => print!(rt; "disjoint, spent "),
+        Verdict::Overlap => print!(rt; "overlap, spent "),
+        Verdict::Unknown => print!(rt; "unknown, spent "),
     }
 }
 
-fn print_answer(a: OverlapAnswer) {
+fn print_answer(rt: &impl Print, a: OverlapAnswer) -> io::Result<()> {
     match a {
         OverlapAnswer::Compared(c) => {
             let v = c.verdict;
-            print_verdict(v);
-            io::print_decimal(STDOUT_FILENO, c.spent as u64);
+            print_verdict(rt, v)?;
+            println!(rt; "{}", c.spent)
         }
-        OverlapAnswer::Refused(r) => {
-            io::write_all(STDOUT_FILENO, b"refused ");
-            io::print_decimal(STDOUT_FILENO, wide(r.number));
-            io::write_all(STDOUT_FILENO, b" at ");
-            io::print_decimal(STDOUT_FILENO, r.place as u64);
-        }
+        OverlapAnswer::Refused(r) => println!(rt; "refused {} at {}", r.number, r.place),
     }
-    io::write_all(STDOUT_FILENO, b"\n");
 }
 
 fn is_refused(a: OverlapAnswer) -> bool {
@@ -48,13 +34,13 @@ fn is_refused(a: OverlapAnswer) -> bool {
     }
 }
 
-fn main() {
-    let mut buf = io::large_buffer();
-    let n = io::read_full(STDIN_FILENO, &mut buf);
+fn main(rt: HostRuntime) -> io::Result<()> {
+    let mut buf = [0u8; 65536];
+    let n = read_full(&mut rt.reader(), &mut buf)?;
     let a = cleaner::overlap(&buf[..n], 0, 1);
     if is_refused(a) {
-        print_answer(cleaner::overlap(&buf[..n], 0, 0));
+        print_answer(&rt, cleaner::overlap(&buf[..n], 0, 0))
     } else {
-        print_answer(a);
+        print_answer(&rt, a)
     }
 }

@@ -1,9 +1,12 @@
 // Clean's answers: data/clean, which tools/clean_vectors.py writes, has a record for each, and that
 // script says how a record is laid out.
-ghost use Rattle.io.specs.Counts.{IsPrefixLen};
+ghost use Rattle.streams.specs.Counts.{IsPrefixLen};
 
 use crate::records::{Asked, pair};
 use answers::CleanAnswer;
+use std::io;
+use std::io::Read;
+use streams::read_full;
 
 // What the lent bytes and entries hold before the call: not zero, so that a change is seen.
 pub const LENT_BYTE: u8 = 165;
@@ -202,26 +205,32 @@ fn following(n: usize, follow: bool) -> usize {
 
 // Reads the next record and asks it; the image before has n bytes, and the cleaned image and the
 // report before are in output and report.
-pub fn ask_next(fd: i32, buf: &mut [u8], n: usize, output: &mut [u8], report: &mut [u8]) -> Asked {
+pub fn ask_next<R: Read>(
+    file: &mut R,
+    buf: &mut [u8],
+    n: usize,
+    output: &mut [u8],
+    report: &mut [u8],
+) -> io::Result<Asked> {
     let mut h = [0u8; 18];
-    if io::read_full(fd, &mut h) < 18 {
-        return Asked::Ended;
+    if read_full(file, &mut h)? < 18 {
+        return Ok(Asked::Ended);
     }
     let q = read_question(&h);
     let expected = q.expected;
-    let k = crate::records::read_image(fd, buf, n, q.len);
+    let k = crate::records::read_image(file, buf, n, q.len)?;
     let o = crate::records::read_image(
-        fd,
+        file,
         output,
         expected.output,
         following(expected.output, q.follow),
-    );
+    )?;
     let r = crate::records::read_image(
-        fd,
+        file,
         report,
         expected.report,
         following(expected.report, q.follow),
-    );
+    )?;
     let ok = is_answered(&buf[..k], &output[..o], &report[..r], q);
-    Asked::Answered(k, ok)
+    Ok(Asked::Answered(k, ok))
 }

@@ -4,6 +4,9 @@ use crate::clean_answers::{LENT_BYTE, is_written};
 use crate::overlap_answers::{sentence_number, verdict_number};
 use crate::records::{Asked, pair};
 use answers::ExpressionAnswer;
+use std::io;
+use std::io::Read;
+use streams::read_full;
 
 // A record: the length of the image that follows (0: the image before stays), the two sentence
 // numbers, the length of the lent slice, and the answer.
@@ -103,15 +106,20 @@ fn is_answered(img: &[u8], text: &[u8], q: Question) -> bool {
 }
 
 // Reads the next record and asks it; the image before has n bytes, and the expression goes to `output`.
-pub fn ask_next(fd: i32, buf: &mut [u8], n: usize, output: &mut [u8]) -> Asked {
+pub fn ask_next<R: Read>(
+    file: &mut R,
+    buf: &mut [u8],
+    n: usize,
+    output: &mut [u8],
+) -> io::Result<Asked> {
     let mut h = [0u8; 16];
-    if io::read_full(fd, &mut h) < 16 {
-        return Asked::Ended;
+    if read_full(file, &mut h)? < 16 {
+        return Ok(Asked::Ended);
     }
     let q = read_question(&h);
     let expected = q.expected;
-    let k = crate::records::read_image(fd, buf, n, q.len);
-    let e = crate::records::read_image(fd, output, 0, expected.length);
+    let k = crate::records::read_image(file, buf, n, q.len)?;
+    let e = crate::records::read_image(file, output, 0, expected.length)?;
     let ok = is_answered(&buf[..k], &output[..e], q);
-    Asked::Answered(k, ok)
+    Ok(Asked::Answered(k, ok))
 }

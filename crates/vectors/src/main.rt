@@ -8,8 +8,10 @@ mod name_answers;
 mod overlap_answers;
 mod records;
 
-use libc::STDOUT_FILENO;
 use records::Asked;
+use std::io::Read;
+use std::rt::Files;
+use std::{fs, io};
 
 // Whose answers a file holds.
 #[derive(Clone, Copy)]
@@ -22,20 +24,20 @@ enum Kind {
 }
 
 // The image before has n bytes; output and report hold what Clean should leave of it.
-fn ask_next(
+fn ask_next<R: Read>(
     kind: Kind,
-    fd: i32,
+    file: &mut R,
     buf: &mut [u8],
     n: usize,
     output: &mut [u8],
     report: &mut [u8],
-) -> Asked {
+) -> io::Result<Asked> {
     match kind {
-        Kind::Names => name_answers::ask_next(fd, buf, output),
-        Kind::Image => image_answers::ask_next(fd, buf, n),
-        Kind::Overlap => overlap_answers::ask_next(fd, buf, n),
-        Kind::Expression => expression_answers::ask_next(fd, buf, n, output),
-        Kind::Clean => clean_answers::ask_next(fd, buf, n, output, report),
+        Kind::Names => name_answers::ask_next(file, buf, output),
+        Kind::Image => image_answers::ask_next(file, buf, n),
+        Kind::Overlap => overlap_answers::ask_next(file, buf, n),
+        Kind::Expression => expression_answers::ask_next(file, buf, n, output),
+        Kind::Clean => clean_answers::ask_next(file, buf, n, output, report),
     }
 }
 
@@ -54,15 +56,21 @@ fn noted(first_wrong: u64, ok: bool, asked: u64) -> u64 {
 }
 
 // Asks every record, at most a million of them, and notes the first whose answer differs, from 1.
-fn replay(kind: Kind, fd: i32, buf: &mut [u8], output: &mut [u8], report: &mut [u8]) -> Replayed {
+fn replay<R: Read>(
+    kind: Kind,
+    file: &mut R,
+    buf: &mut [u8],
+    output: &mut [u8],
+    report: &mut [u8],
+) -> io::Result<Replayed> {
     let mut n: usize = 0;
     let mut asked: u64 = 0;
     let mut first_wrong: u64 = 0;
     while asked < 1000000 {
-        let a = ask_next(kind, fd, buf, n, output, report);
+        let a = ask_next(kind, file, buf, n, output, report)?;
         match a {
             Asked::Ended => {
-                return Replayed { asked, first_wrong };
+                return Ok(Replayed { asked, first_wrong });
             }
             Asked::Answered(k, ok) => {
                 n = k;
@@ -71,40 +79,33 @@ fn replay(kind: Kind, fd: i32, buf: &mut [u8], output: &mut [u8], report: &mut [
             }
         }
     }
-    Replayed { asked, first_wrong }
+    Ok(Replayed { asked, first_wrong })
 }
 
-fn print_replayed(name: &[u8], r: Replayed) {
-    io::write_all(STDOUT_FILENO, name);
-    io::write_all(STDOUT_FILENO, b": ");
-    io::print_decimal(STDOUT_FILENO, r.asked);
-    if r.first_wrong == 0 {
-        io::write_all(STDOUT_FILENO, b" answers as stored\n");
+fn print_replayed(rt: &impl Print, name: &str, r: Replayed) -> io::Result<()> {
+    let asked = r.asked;
+    let first_wrong = r.first_wrong;
+    if first_wrong == 0 {
+        println!(rt; "{name}: {asked} answers as stored")
     } else {
-        io::write_all(
-            STDOUT_FILENO,
-            b" answers, the first that differs is number ",
-        );
-        io::print_decimal(STDOUT_FILENO, r.first_wrong);
-        io::write_all(STDOUT_FILENO, b"\n");
+        println!(rt; "{name}: {asked} answers, the first that differs is number {first_wrong}")
     }
 }
 
 // Replays the file of that name.
-fn replay_file(name: &[u8], kind: Kind) {
-    let mut buf = io::large_buffer();
-    let mut output = io::large_buffer();
-    let mut report = io::large_buffer();
-    let fd = os::open_read(name);
-    let r = replay(kind, fd, &mut buf, &mut output, &mut report);
-    libc::close(fd);
-    print_replayed(name, r);
+fn replay_file(rt: &(impl Files + Print), name: &str, kind: Kind) -> io::Result<()> {
+    let mut buf = [0u8; 65536];
+    let mut output = [0u8; 65536];
+    let mut report = [0u8; 65536];
+    let mut file = fs::open(rt, name)?;
+    let r = replay(kind, &mut file, &mut buf, &mut output, &mut report)?;
+    print_replayed(rt, name, r)
 }
 
-fn main() {
-    replay_file(b"names", Kind::Names);
-    replay_file(b"image", Kind::Image);
-    replay_file(b"overlap", Kind::Overlap);
-    replay_file(b"expression", Kind::Expression);
-    replay_file(b"clean", Kind::Clean);
+fn main(rt: HostRuntime) -> io::Result<()> {
+    replay_file(&rt, "names", Kind::Names)?;
+    replay_file(&rt, "image", Kind::Image)?;
+    replay_file(&rt, "overlap", Kind::Overlap)?;
+    replay_file(&rt, "expression", Kind::Expression)?;
+    replay_file(&rt, "clean", Kind::Clean)
 }

@@ -3,6 +3,9 @@
 use crate::records::{Asked, pair};
 use answers::OverlapAnswer;
 use patterns::Verdict;
+use std::io;
+use std::io::Read;
+use streams::read_full;
 
 // A record: the length of the image that follows (0: the image before stays), the two sentence
 // numbers, and the answer.
@@ -100,13 +103,13 @@ fn is_answered(img: &[u8], q: Question) -> bool {
 }
 
 // Reads the next record and asks it; the image before has n bytes.
-pub fn ask_next(fd: i32, buf: &mut [u8], n: usize) -> Asked {
+pub fn ask_next<R: Read>(file: &mut R, buf: &mut [u8], n: usize) -> io::Result<Asked> {
     let mut h = [0u8; 12];
-    if io::read_full(fd, &mut h) < 12 {
-        return Asked::Ended;
+    if read_full(file, &mut h)? < 12 {
+        return Ok(Asked::Ended);
     }
     let q = read_question(&h);
-    let k = crate::records::read_image(fd, buf, n, q.len);
+    let k = crate::records::read_image(file, buf, n, q.len)?;
     let ok = is_answered(&buf[..k], q);
-    Asked::Answered(k, ok)
+    Ok(Asked::Answered(k, ok))
 }

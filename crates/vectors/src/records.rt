@@ -1,5 +1,10 @@
 // What the records of all files share: an image that may stay for the next record, and the answer.
-ghost use Rattle.io.specs.Counts.{IsPrefixLen};
+ghost use Rattle.std.specs.Prelude.{IfOk};
+ghost use Rattle.streams.specs.Counts.{IsPrefixLen};
+
+use std::io;
+use std::io::Read;
+use streams::read_full;
 
 // What became of a record: the length of its image, and whether the answer was the stored one.
 #[derive(Clone, Copy)]
@@ -20,13 +25,13 @@ pub fn within(n: usize, buf: &[u8]) -> usize
 }
 
 // The image that the record is about, read into buf where it is a new one: its length.
-pub fn read_image(fd: i32, buf: &mut [u8], n: usize, len: usize) -> usize
-    ensures { IsPrefixLen result buf.new }
+pub fn read_image<R: Read>(file: &mut R, buf: &mut [u8], n: usize, len: usize) -> io::Result<usize>
+    ensures { IfOk result (λ k. IsPrefixLen k buf.new) }
 {
     if len == 0 {
-        return within(n, buf);
+        return Ok(within(n, buf));
     }
     let m = within(len, buf);
-    let k = io::read_full(fd, &mut buf[..m]);
-    within(k, buf)
+    let k = read_full(file, &mut buf[..m])?;
+    Ok(within(k, buf))
 }

@@ -76,7 +76,7 @@ PROGRAMS = {
         *(define(name, rule([])) for name in "FGH"),
     ],
     "dynamic": [define("Go", rule([var("e.X")], [call("mU", var("e.X")), call("F", *chars("A"))])), TWO],
-    "dynamicBlock": [
+    "dynamic_block": [
         define(
             "Go",
             rule(
@@ -129,7 +129,7 @@ DECLARATIONS = {"declared": [Declaration([b"F"])]}
 def texts():
     """The texts in the file, by the names of their programs."""
     source = EXAMPLES.read_text()
-    found = re.findall(r'^(\w+)-report : reported \w+\s*≡ ascii "([^\n]*)"$', source, re.M)
+    found = re.findall(r'^(\w+?)[_-]report : reported \w+\s*≡ ascii "([^\n]*)"$', source, re.M)
     return {name: text.replace("\\n", "\n").replace('\\"', '"').encode() for name, text in found}
 
 

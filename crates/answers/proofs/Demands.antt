@@ -1,5 +1,5 @@
 -- What the entry points promise, one page: each promise is a theorem, proved by citing.
--- The code meets these definitions, with no `requires`: `cleaner::overlap` ensures `r ≡ overlap_answer image first second` for every image and numbers, and `cleaner::clean` ensures that its answer and the three lent slices at exit are those of `cleanAnswer image lent`, for every image and every lent length. `cleaner::overlap_expression` ensures that its answer and the lent slice at exit are those of `expressionAnswer image first second lent`. Under the C names `showclean_clean`, `showclean_overlap` and `showclean_overlap_expression` ensure that the number returned is `pack_clean`, `pack_overlap` and `pack_expression` of the same answers.
+-- The code meets these definitions, with no `requires`: `cleaner::overlap` ensures `result ≡ overlap_answer image first second` for every image and numbers, and `cleaner::clean` ensures that its answer and the three lent slices at exit are those of `clean_answer image lent`, for every image and every lent length. `cleaner::overlap_expression` ensures that its answer and the lent slice at exit are those of `expression_answer image first second lent`. Under the C names `showclean_clean`, `showclean_overlap` and `showclean_overlap_expression` ensure that the number returned is `pack_clean`, `pack_overlap` and `pack_expression` of the same answers.
 use Prim.Native.Nat.{ℕ, ◌+◌, ◌*◌, ◌/◌, ◌%◌, ◌<◌, ◌≤◌}
 use native.Mathlib.Omega.{arith}
 use mathlib.Core.Path.{◌≡◌, refl, sym, ap, subst, ◌∙◌}

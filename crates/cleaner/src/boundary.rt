@@ -1,4 +1,4 @@
-// The entry points under C names, each with its answer packed into one number.
+// What the static library answers under C names, each answer packed into one number.
 ghost use Rattle.std.specs.Prelude.{◌≡◌};
 ghost use Rattle.answers.specs.Answers.{overlap_answer, verdict_number};
 ghost use Rattle.answers.specs.CleanAnswers.{clean_answer, lending};

@@ -1,7 +1,7 @@
 // Symbols, patterns, and whether one expression can match two of them: definitions and theorems, and the types that code shares with them.
-// The answer to whether one expression can match two patterns.
 #![tactic(auto)]
 
+// The answer to whether one expression can match two patterns.
 #[derive(Clone, Copy)]
 pub enum Verdict {
     Disjoint,

@@ -1,7 +1,7 @@
 // Programs and their images: definitions and theorems, and the type that code shares with them.
-// A refusal and its place; number 0 is none.
 #![tactic(auto)]
 
+// A refusal and its place; number 0 is none.
 #[derive(Clone, Copy)]
 pub struct Refusal {
     pub number: u8,

@@ -38,7 +38,7 @@ fn trouble(archive: &Path) -> Option<String> {
     }
     if !archive.is_file() {
         return Some(format!(
-            "there is no {}: run `sh tools/archive.sh` in the repository's root first (it proves every crate, 7 minutes of processor time), or set {ELSEWHERE} to a folder with {ARCHIVE}",
+            "there is no {}: run `sh tools/archive.sh` in the repository's root first (it proves every crate, which takes minutes), or set {ELSEWHERE} to a folder with {ARCHIVE}",
             archive.display()
         ));
     }

@@ -43,8 +43,8 @@ use Rattle.meaning.proofs.Unwatched.{unwatched, unwatched_run as without-watch}
 use Rattle.meaning.proofs.Ahead.{Begins, ends_as_run, begins-run}
 use Rattle.meaning.proofs.Bound.{all_rounds_few, all_dropped_add_up}
 use Rattle.meaning.proofs.Twice.{clean_twice, twice_removed, twice_rounds}
-use Rattle.answers.specs.declared.CleanAnswer.{CleanAnswer}
-use Rattle.answers.specs.declared.OverlapAnswer.{OverlapAnswer}
+use Rattle.answers.specs.CleanAnswers.{CleanAnswer}
+use Rattle.answers.specs.Answers.{OverlapAnswer}
 use Rattle.answers.specs.Answers.{compare_patterns, overlap_answer, comparison_values, verdict_number, overlap_values}
 use Rattle.answers.specs.CleanAnswers.{Lent, Left, cleaned_to, zeroed, written, clean_answer, CleanValues, clean_values}
 use Rattle.answers.specs.Packed.{clean_fields, overlap_fields, pack_clean, pack_overlap, CleanFits}

@@ -17,7 +17,7 @@ use Rattle.program.proofs.Listed.{refusals_listed}
 use Rattle.patterns.specs.declared.Verdict.{Verdict}
 use Rattle.patterns.specs.declared.Verdict.TheVariants.{Disjoint, Overlap, Unknown}
 use Rattle.patterns.proofs.Fuel.{spent_and_left}
-use Rattle.answers.specs.declared.OverlapAnswer.{OverlapAnswer}
+use Rattle.answers.specs.Answers.{OverlapAnswer}
 use Rattle.answers.specs.Answers.{compare_patterns, compare_found, compare_sentences, overlap_of, overlap_answer, verdict_number}
 use Rattle.answers.specs.Packed.{Fields, packed, overlap_fields, pack_fields, Fit}
 

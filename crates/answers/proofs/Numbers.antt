@@ -7,7 +7,7 @@ use mathlib.Core.List.{List, [], ◌∷◌, ◌++◌}
 use lib.ListN.{length, length-append, length-drop, take, drop}
 use Rattle.program.specs.Syntax.{Program}
 use Rattle.program.specs.Sentences.{Sentence}
-use Rattle.answers.specs.declared.OverlapAnswer.{OverlapAnswer}
+use Rattle.answers.specs.Answers.{OverlapAnswer}
 use Rattle.answers.specs.Answers.{compare_patterns, overlap_answer, overlap_values}
 use Rattle.answers.specs.CleanAnswers.{Lent, Left, written, clean_answer, clean_values}
 use Rattle.answers.proofs.Exactly.{CleanRefuses, CleanAccepts, clean_refuses, clean_accepts, clean_case, clean_number, OverlapRefuses, OverlapAccepts, overlap_refuses, overlap_accepts, overlap_case, overlap_number}

@@ -9,6 +9,7 @@ use mathlib.Core.Option.{Option, none, some}
 use lib.Dec.{ltb}
 use lib.ListN.{length, take, drop, length-append}
 use borrow.Author.Tests.{ltb-false, le-ltb}
+use Rattle.std.specs.Prelude.{Ok}
 use Rattle.program.specs.Syntax.{Program}
 use Rattle.program.specs.Decode.{Answer, sized, decode}
 use Rattle.patterns.specs.Expression.{Expression}
@@ -22,7 +23,7 @@ use Rattle.meaning.specs.Cleaning.{clean_residual_program}
 use Rattle.meaning.proofs.SameRun.{same_watched}
 use Rattle.meaning.proofs.Space.{told-fits, value_told_fits}
 use Rattle.meaning.proofs.Told.{events-splits, events-length}
-use Rattle.answers.specs.declared.RunAnswer.{RunAnswer}
+use Rattle.answers.specs.RunAnswers.{RunAnswer}
 use Rattle.answers.specs.CleanAnswers.{written}
 use Rattle.answers.specs.RunAnswers.{RunLeft, run_refused, refusing_run, ending_number, stop_answer, ending_bytes, stop_bytes, ran_to, run_inputs, run_of, run_answer, run_values}
 use Rattle.answers.proofs.Exactly.{ImageRefuses, image_refused, image_number, ImageCase, image_case}
@@ -85,7 +86,7 @@ module _ (image input answers : List ℕ) where
     run_refuses _ _ (RunRefuses.by-15 {w} {v} {l} h k) = ap (λ (x : RunLeft). x.answer) (run_as w v l h) ∙ rw k
     run_refuses _ _ (RunRefuses.by-16 {w} {v} {l} h k) = ap (λ (x : RunLeft). x.answer) (run_as w v l h) ∙ rw k
 
-    pub run_ends : (w : Program) (v : Expression) (l : List Expression) (e : Ending) → RunEnds w v l e → (run_answer image input answers limit events).answer ≡ RunAnswer.Ended (record { ending = ending_number e; length = event_bytes (outcome w v l).events })
+    pub run_ends : (w : Program) (v : Expression) (l : List Expression) (e : Ending) → RunEnds w v l e → (run_answer image input answers limit events).answer ≡ Ok (record { ending = ending_number e; length = event_bytes (outcome w v l).events })
     unfolding ran_to stop_answer
     run_ends w v l e h = ap (λ (x : RunLeft). x.answer) (run_as w v l h.runs) ∙ rw h.ends
 

@@ -9,6 +9,7 @@ use mathlib.Core.Option.{Option, none, some}
 use lib.Dec.{ltb}
 use lib.ListN.{length, length-append, get_elem?}
 use borrow.Author.Tests.{ltb-true, ltb-false, lt-ltb, le-ltb}
+use Rattle.std.specs.Prelude.{Ok}
 use Rattle.program.specs.Syntax.{Terms, Sentences, Function}
 use Rattle.program.specs.Bytes.{Bytes, put_name}
 use Rattle.program.specs.Encode.{put_terms, put_conditions, put_sentences, visibility_byte, put_function, put_functions}
@@ -27,7 +28,7 @@ use Rattle.patterns.specs.Meet.{meet}
 use Rattle.patterns.proofs.Fuel.{spent_and_left}
 use Rattle.patterns.proofs.Marks.{Coded}
 use Rattle.patterns.proofs.MeetBytes.{terms_bytes, valid_coded, Within, meet_within}
-use Rattle.answers.specs.declared.ExpressionAnswer.{ExpressionAnswer}
+use Rattle.answers.specs.ExpressionAnswers.{ExpressionAnswer}
 use Rattle.answers.specs.Answers.{verdict_number}
 use Rattle.answers.specs.CleanAnswers.{written}
 use Rattle.answers.specs.Packed.{overlap_fields, Fit}
@@ -50,7 +51,7 @@ pub record ExpressionAccepts (image : List ℕ) (first second : ℕ) (lent : Lis
 -- What is answered then, with the lent slice.
 abbrev pub shared : Terms → Terms → List ℕ → ExpressionLeft
 shared a b lent = record {
-  answer = ExpressionAnswer.Compared (record { verdict = patterns_overlap a b; spent = spent a b; length = length (shared_expression a b) });
+  answer = Ok (record { verdict = patterns_overlap a b; spent = spent a b; length = length (shared_expression a b) });
   lent = written (shared_expression a b) lent;
 }
 

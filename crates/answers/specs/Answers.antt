@@ -1,5 +1,5 @@
 -- What the entry points answer, as document 01 says it: its numbers and values for every case.
-use Rattle.std.specs.Prelude.{ℕ, List}
+use Rattle.std.specs.Prelude.{ℕ, List, Result, Ok, Err}
 use Rattle.std.proofs.Math.Option.{Option, none, some}
 use Rattle.std.proofs.Math.ListN.{get_elem?}
 use Rattle.program.specs.Syntax.{Terms, Program}
@@ -8,15 +8,20 @@ use Rattle.program.specs.Sentences.{Sentence, own_sentences}
 use Rattle.patterns.specs.declared.Verdict.{Verdict}
 use Rattle.patterns.specs.declared.Verdict.TheVariants.{Disjoint, Overlap, Unknown}
 use Rattle.patterns.specs.Search.{patterns_overlap, spent}
-use Rattle.answers.specs.declared.OverlapAnswer.{OverlapAnswer}
+use Rattle.program.specs.declared.Refusal.{Refusal}
+use Rattle.answers.specs.declared.Comparison.{Comparison}
+
+-- What Overlap answers: the verdict and the entries spent, or a refusal.
+abbrev pub OverlapAnswer : Type 0
+OverlapAnswer = Result Comparison Refusal
 
 -- A refusal, as the code has it.
 abbrev pub overlap_refused : ℕ → ℕ → OverlapAnswer
-overlap_refused n p = OverlapAnswer.Refused (record { number = n; place = p })
+overlap_refused n p = Err (record { number = n; place = p })
 
 -- "the verdict, and the entries spent by the outermost pair"
 unfoldable pub compare_patterns : Terms → Terms → OverlapAnswer
-compare_patterns a b = OverlapAnswer.Compared (record { verdict = patterns_overlap a b; spent = spent a b })
+compare_patterns a b = Ok (record { verdict = patterns_overlap a b; spent = spent a b })
 
 -- "13 (overlap): a sentence number not below the sentence count."
 unfoldable pub compare_found : Option Sentence → Option Sentence → OverlapAnswer
@@ -57,5 +62,5 @@ verdict_number Overlap = 1
 verdict_number Unknown = 2
 
 unfoldable pub overlap_values : OverlapAnswer → OverlapValues
-overlap_values (OverlapAnswer.Compared c) = comparison_values (verdict_number c.verdict) c.spent
-overlap_values (OverlapAnswer.Refused r) = refusal_values r.number r.place
+overlap_values (Ok c) = comparison_values (verdict_number c.verdict) c.spent
+overlap_values (Err r) = refusal_values r.number r.place

@@ -1,12 +1,17 @@
 -- What Clean answers and leaves, on any bytes and any lent lengths.
-use Rattle.std.specs.Prelude.{ℕ, ◌+◌, ◌/◌, cond, List, ◌++◌, map, ltb, length, drop}
+use Rattle.std.specs.Prelude.{ℕ, ◌+◌, ◌/◌, cond, List, ◌++◌, map, ltb, length, drop, Result, Ok, Err}
 use Rattle.program.specs.Encode.{encode}
 use Rattle.program.specs.Decode.{Answer, sized, decode}
 use Rattle.meaning.specs.Cleaning.{clean_residual_program}
 use Rattle.meaning.specs.CleanReport.{clean_report}
 use Rattle.meaning.specs.Text.{Text}
 use Rattle.meaning.specs.Report.{format_clean_report}
-use Rattle.answers.specs.declared.CleanAnswer.{CleanAnswer}
+use Rattle.program.specs.declared.Refusal.{Refusal}
+use Rattle.answers.specs.declared.Lengths.{Lengths}
+
+-- What Clean answers: both lengths, or a refusal.
+abbrev pub CleanAnswer : Type 0
+CleanAnswer = Result Lengths Refusal
 
 -- "Clean takes an image, an output, a work slice of 32-bit entries and a report."
 pub record Lent : Type 0 where
@@ -23,10 +28,10 @@ pub record Left : Type 0 where
   pub lent : Lent
 
 abbrev pub clean_refused : ℕ → ℕ → CleanAnswer
-clean_refused n p = CleanAnswer.Refused (record { number = n; place = p })
+clean_refused n p = Err (record { number = n; place = p })
 
 abbrev pub cleaned_to : ℕ → ℕ → CleanAnswer
-cleaned_to n m = CleanAnswer.Cleaned (record { output = n; report = m })
+cleaned_to n m = Ok (record { output = n; report = m })
 
 -- "A refusal returns its number and a place, and changes no lent memory".
 unfoldable pub refusing : ℕ → ℕ → Lent → Left
@@ -76,5 +81,5 @@ pub record CleanValues : Type 0 where
   pub report : ℕ
 
 unfoldable pub clean_values : CleanAnswer → CleanValues
-clean_values (CleanAnswer.Cleaned n) = record { number = 0; place = 0; output = n.output; report = n.report }
-clean_values (CleanAnswer.Refused r) = record { number = r.number; place = r.place; output = 0; report = 0 }
+clean_values (Ok n) = record { number = 0; place = 0; output = n.output; report = n.report }
+clean_values (Err r) = record { number = r.number; place = r.place; output = 0; report = 0 }

@@ -1,5 +1,5 @@
 -- Document 02, request 5: "A new entry point takes what Overlap takes, returns its answer and the length written, and writes, for an Overlap verdict, one expression that matches both patterns".
-use Rattle.std.specs.Prelude.{ℕ, ◌+◌, ◌*◌, cond, List, [], ltb, length}
+use Rattle.std.specs.Prelude.{ℕ, ◌+◌, ◌*◌, cond, List, [], ltb, length, Result, Ok, Err}
 use Rattle.std.proofs.Math.Option.{Option, none, some}
 use Rattle.std.proofs.Math.ListN.{get_elem?}
 use Rattle.program.specs.Syntax.{Terms, Program}
@@ -11,10 +11,15 @@ use Rattle.patterns.specs.Expression.{Expression}
 use Rattle.patterns.specs.Marks.{put_expression}
 use Rattle.patterns.specs.Search.{patterns_overlap, spent}
 use Rattle.patterns.specs.Meet.{meet}
-use Rattle.answers.specs.declared.ExpressionAnswer.{ExpressionAnswer}
+use Rattle.program.specs.declared.Refusal.{Refusal}
+use Rattle.answers.specs.declared.Sharing.{Sharing}
 use Rattle.answers.specs.Answers.{verdict_number}
 use Rattle.answers.specs.CleanAnswers.{written}
 use Rattle.answers.specs.Packed.{Fields, fields, pack_fields}
+
+-- The same with the length of the expression.
+abbrev pub ExpressionAnswer : Type 0
+ExpressionAnswer = Result Sharing Refusal
 
 -- The answer, and what is in the lent slice then.
 pub record ExpressionLeft : Type 0 where
@@ -22,7 +27,7 @@ pub record ExpressionLeft : Type 0 where
   pub lent : List ℕ
 
 abbrev pub expression_refused : ℕ → ℕ → ExpressionAnswer
-expression_refused n p = ExpressionAnswer.Refused (record { number = n; place = p })
+expression_refused n p = Err (record { number = n; place = p })
 
 -- A refusal "changes no lent memory" (document 01).
 unfoldable pub refusing_expression : ℕ → ℕ → List ℕ → ExpressionLeft
@@ -43,7 +48,7 @@ unfoldable pub share_patterns : Terms → Terms → List ℕ → ExpressionLeft
 share_patterns a b lent =
     cond (ltb (length lent) (length (shared_expression a b))) (refusing_expression 17 0 lent)
     (record {
-      answer = ExpressionAnswer.Compared (record { verdict = patterns_overlap a b; spent = spent a b; length = length (shared_expression a b) });
+      answer = Ok (record { verdict = patterns_overlap a b; spent = spent a b; length = length (shared_expression a b) });
       lent = written (shared_expression a b) lent;
     })
 
@@ -73,13 +78,13 @@ pub record ExpressionValues : Type 0 where
   pub length : ℕ
 
 unfoldable pub expression_values : ExpressionAnswer → ExpressionValues
-expression_values (ExpressionAnswer.Compared c) = record { number = 0; place = 0; verdict = verdict_number c.verdict; spent = c.spent; length = c.length }
-expression_values (ExpressionAnswer.Refused r) = record { number = r.number; place = r.place; verdict = 0; spent = 0; length = 0 }
+expression_values (Ok c) = record { number = 0; place = 0; verdict = verdict_number c.verdict; spent = c.spent; length = c.length }
+expression_values (Err r) = record { number = r.number; place = r.place; verdict = 0; spent = 0; length = 0 }
 
 -- In one number of 64 bits, as the C name gives it: bits 8 and 9 the verdict, 10 to 23 the entries spent, 24 to 63 the length or the place.
 unfoldable pub expression_fields : ExpressionAnswer → Fields
-expression_fields (ExpressionAnswer.Compared c) = fields 0 (verdict_number c.verdict + 4 * c.spent) c.length
-expression_fields (ExpressionAnswer.Refused f) = fields f.number 0 f.place
+expression_fields (Ok c) = fields 0 (verdict_number c.verdict + 4 * c.spent) c.length
+expression_fields (Err f) = fields f.number 0 f.place
 
 abbrev pub pack_expression : ExpressionAnswer → ℕ
 pack_expression r = pack_fields (expression_fields r)

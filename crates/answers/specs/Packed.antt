@@ -1,7 +1,7 @@
 -- An answer in one number of 64 bits, as the C names give it.
-use Rattle.std.specs.Prelude.{ℕ, ◌+◌, ◌*◌, ◌<◌}
-use Rattle.answers.specs.declared.CleanAnswer.{CleanAnswer}
-use Rattle.answers.specs.declared.OverlapAnswer.{OverlapAnswer}
+use Rattle.std.specs.Prelude.{ℕ, ◌+◌, ◌*◌, ◌<◌, Ok, Err}
+use Rattle.answers.specs.CleanAnswers.{CleanAnswer}
+use Rattle.answers.specs.Answers.{OverlapAnswer}
 use Rattle.answers.specs.Answers.{verdict_number}
 
 -- The number, 0 or the refusal, in bits 0 to 7, the middle in bits 8 to 23, the rest in bits 24 to 63.
@@ -24,13 +24,13 @@ pub record FieldsFit (number middle rest : ℕ) : Type 0 where
 
 -- The lengths of the output and of the report, or the refusal and its place.
 unfoldable pub clean_fields : CleanAnswer → Fields
-clean_fields (CleanAnswer.Cleaned l) = fields 0 l.output l.report
-clean_fields (CleanAnswer.Refused f) = fields f.number 0 f.place
+clean_fields (Ok l) = fields 0 l.output l.report
+clean_fields (Err f) = fields f.number 0 f.place
 
 -- The verdict and the entries spent, or the refusal and its place.
 unfoldable pub overlap_fields : OverlapAnswer → Fields
-overlap_fields (OverlapAnswer.Compared c) = fields 0 (verdict_number c.verdict) c.spent
-overlap_fields (OverlapAnswer.Refused f) = fields f.number 0 f.place
+overlap_fields (Ok c) = fields 0 (verdict_number c.verdict) c.spent
+overlap_fields (Err f) = fields f.number 0 f.place
 
 abbrev pub pack_fields : Fields → ℕ
 pack_fields f = packed f.number f.middle f.rest

@@ -1,5 +1,5 @@
 -- Document 02, request 1: "A new engine takes an accepted image, an input expression written in image marks, a list of answers for functions the show lacks, and a call limit. It writes the event list of document 01's run and returns its length and the ending".
-use Rattle.std.specs.Prelude.{ℕ, List, [], ◌∷◌, length}
+use Rattle.std.specs.Prelude.{ℕ, List, [], ◌∷◌, length, Result, Ok, Err}
 use Rattle.std.proofs.Math.Option.{Option, none, some}
 use Rattle.program.specs.Syntax.{Program}
 use Rattle.program.specs.Decode.{Answer, decode}
@@ -9,9 +9,14 @@ use Rattle.meaning.specs.Run.{Ending, value, no_root, no_answer_left, nothing_fi
 use Rattle.meaning.specs.Records.{put_events, event_bytes}
 use Rattle.meaning.specs.Inputs.{input_of, answers_of}
 use Rattle.meaning.specs.Watch.{Stop, ended, too_heavy, too_long, WatchedOutcome, lent, watched_run}
-use Rattle.answers.specs.declared.RunAnswer.{RunAnswer}
+use Rattle.program.specs.declared.Refusal.{Refusal}
+use Rattle.answers.specs.declared.Ran.{Ran}
 use Rattle.answers.specs.CleanAnswers.{written}
 use Rattle.answers.specs.Packed.{Fields, fields, pack_fields}
+
+-- What the engine answers: the ending and the length of the events, or a refusal.
+abbrev pub RunAnswer : Type 0
+RunAnswer = Result Ran Refusal
 
 -- The answer, and what is in the lent list then.
 pub record RunLeft : Type 0 where
@@ -19,7 +24,7 @@ pub record RunLeft : Type 0 where
   pub events : List ℕ
 
 abbrev pub run_refused : ℕ → ℕ → RunAnswer
-run_refused n p = RunAnswer.Refused (record { number = n; place = p })
+run_refused n p = Err (record { number = n; place = p })
 
 -- A refusal before the run "changes no lent memory" (document 01).
 unfoldable pub refusing_run : ℕ → ℕ → List ℕ → RunLeft
@@ -36,7 +41,7 @@ ending_number call_limit = 5
 
 -- "returns its length and the ending"; "the earlier of 15 and 16 in the run is returned, its place the length of the events before it".
 unfoldable pub stop_answer : Stop → ℕ → RunAnswer
-stop_answer (ended e) n = RunAnswer.Ended (record { ending = ending_number e; length = n })
+stop_answer (ended e) n = Ok (record { ending = ending_number e; length = n })
 stop_answer too_heavy n = run_refused 15 n
 stop_answer too_long n = run_refused 16 n
 
@@ -80,13 +85,13 @@ pub record RunValues : Type 0 where
   pub length : ℕ
 
 unfoldable pub run_values : RunAnswer → RunValues
-run_values (RunAnswer.Ended r) = record { number = 0; place = 0; ending = r.ending; length = r.length }
-run_values (RunAnswer.Refused f) = record { number = f.number; place = f.place; ending = 0; length = 0 }
+run_values (Ok r) = record { number = 0; place = 0; ending = r.ending; length = r.length }
+run_values (Err f) = record { number = f.number; place = f.place; ending = 0; length = 0 }
 
 -- In one number of 64 bits, as the C name gives it: bits 8 to 23 the ending, 24 to 63 the length of the events or the place.
 unfoldable pub run_fields : RunAnswer → Fields
-run_fields (RunAnswer.Ended r) = fields 0 r.ending r.length
-run_fields (RunAnswer.Refused f) = fields f.number 0 f.place
+run_fields (Ok r) = fields 0 r.ending r.length
+run_fields (Err f) = fields f.number 0 f.place
 
 abbrev pub pack_run : RunAnswer → ℕ
 pack_run r = pack_fields (run_fields r)

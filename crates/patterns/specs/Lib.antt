@@ -10,3 +10,4 @@ pub mod Dry
 pub mod Expression
 pub mod Fresh
 pub mod Table
+pub mod Words

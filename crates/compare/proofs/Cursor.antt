@@ -9,13 +9,13 @@ use lib.ListN.{length, get_or, drop, length-append, length-drop, get_or-append}
 use lib.Seq.{drop-cons, drop_at}
 use borrow.Author.Tests.{eqb-true, eqb-false, leb-true, leb-false, eq-eqb, ne_eqb}
 use Rattle.program.specs.Limits.{Mode}
-use Rattle.image.specs.Parts.{Passes, TermsAt}
+use Rattle.image.specs.Parts.{Passes, TermsAt, token_length}
 use Rattle.program.proofs.Lengths.{terms-length}
 use Rattle.patterns.specs.Names.{eq_bytes}
 use Rattle.symbols.proofs.Parts.{part_rest}
 use Rattle.rows.proofs.Readings.{part, part_length, part_part}
 use Rattle.meaning.specs.Text.{Text, format_terms}
-use Rattle.compare.specs.Letters.{token_length, letters, TokenIn}
+use Rattle.compare.specs.Letters.{letters, TokenIn, StandsIn}
 use Rattle.compare.proofs.Letters.{letters-short, token-long}
 use Rattle.compare.proofs.Walk.{Walk, walk_long, walk_all}
 
@@ -98,6 +98,9 @@ module _ {s rest : List ℕ} {m i k : ℕ} (x : Cursor s rest m i k) where
               inside = omega (arith, e, ap length w.1);
               text = drop-cons (y ++ flatten ls) k 0 (omega (arith, e, length-append y (flatten ls))) ∙ ap (λ (b : ℕ). b ∷ drop (suc k) (y ++ flatten ls)) g;
             }
+
+    pub stands : StandsIn s i k
+    stands = record { within = omega (arith, cursor_within); token = going.token; inside = going.inside }
 
     pub gone : (z : Bool) (n q : ℕ) → z ≡ eqb (k + 1) (length (letters (part s i))) → n ≡ cond z (token_length (part s i)) 0 → q ≡ cond z 0 (k + 1) → Gone s rest m i k x.texts n q
     unfolding flatten
@@ -198,3 +201,6 @@ module _ {a b : List ℕ} {t : TermsAt Mode.pattern a} {u : TermsAt Mode.pattern
         two = o.next;
         whole = reads_both ∙ (letters-met c d _ _ h ∙ (ap (λ (z : Text). eq_bytes z (drop (suc l) (flatten x.two.texts))) g.text ∙ ap (eq_bytes (left g.next)) o.text));
       }
+
+pub comparing-there : {a b : List ℕ} {t : TermsAt Mode.pattern a} {u : TermsAt Mode.pattern b} {m n i k j l p q r s : ℕ} → Comparing t u m n i k j l → p ≡ i → q ≡ k → r ≡ j → s ≡ l → Comparing t u m n p q r s
+comparing-there x d e f g = rw (d, e, f, g) x

@@ -14,7 +14,8 @@ use Rattle.program.specs.Bytes.{get32}
 use Rattle.patterns.specs.Ascii.{ascii}
 use Rattle.meaning.specs.Text.{Text, utf8, quote, format_symbol}
 use Rattle.text.specs.FormatTerm.{gap_before, kind_letter}
-use Rattle.compare.specs.Letters.{token_length, token_name, token_text, token_gap, letters, TokenIn}
+use Rattle.image.specs.Parts.{token_length}
+use Rattle.compare.specs.Letters.{token_name, token_text, token_gap, letters, TokenIn}
 use Rattle.text.proofs.Codes.{utf8-one, utf8-two, utf8_three, utf8_four}
 use Rattle.text.proofs.Leaves.{utf8-length, quote-length}
 

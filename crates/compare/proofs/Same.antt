@@ -1,22 +1,23 @@
 -- Tokens that hold the same, spans aside, print the same; two sequences in step, token by token, have the same text if they end together.
-use Prim.Native.Nat.{ℕ, zero, suc, ◌+◌, ◌-◌, ◌<◌, ◌≤◌}
+use Prim.Native.Nat.{ℕ, zero, suc, ◌+◌, ◌<◌, ◌≤◌}
 use native.Mathlib.Omega.{arith}
 use mathlib.Core.Path.{◌≡◌, refl, sym, ap, ap₂, subst, ◌∙◌}
-use mathlib.Core.Bool.{Bool, true, false, not, ◌&&◌, true≢false, and-eq-true_iff}
+use mathlib.Core.Bool.{Bool, true, false, not, beq, ◌&&◌, true≢false, and-eq-true_iff}
 use mathlib.Core.List.{List, [], ◌∷◌, ◌++◌, flatten}
 use lib.Dec.{eqb}
 use lib.ListN.{length, get_or, drop}
-use borrow.Author.Tests.{eqb-true, eqb-false, eq-eqb, ne_eqb}
+use borrow.Author.Tests.{eqb-true, eqb-false, eq-eqb}
 use Rattle.program.specs.Syntax.{character}
 use Rattle.program.specs.Bytes.{get32}
 use Rattle.program.specs.Limits.{Mode}
-use Rattle.image.specs.Parts.{TermsAt}
+use Rattle.image.specs.Parts.{TermsAt, token_length, closes_after}
 use Rattle.patterns.specs.Names.{eq_bytes}
 use Rattle.symbols.proofs.Parts.{part_rest}
 use Rattle.rows.proofs.Readings.{part, part_length, part_part}
 use Rattle.meaning.specs.Text.{Text, format_symbol, format_terms}
 use Rattle.text.specs.FormatTerm.{kind_letter}
-use Rattle.compare.specs.Letters.{token_length, token_name, token_text, token_gap, letters, closes_after, TokenIn}
+use Rattle.compare.specs.Letters.{token_name, token_text, token_gap, letters, TokenIn}
+use Rattle.image.proofs.Closes.{closes_open, closes_close, closes_same}
 use Rattle.compare.proofs.Letters.{length-code, length-name, length_begin, length-close, text-code, text-name, text-variable, text_begin, text-close, gap_begin, gap-close, gap_space, letters_are, name-size, name-room, by_mark}
 use Rattle.compare.proofs.Walk.{Walk, Closing, walk_long, walk_all}
 
@@ -70,33 +71,24 @@ module _ (x y : List ℕ) (h : SameText x y) where
     at_y : get_or y k 0 ≡ get_or y (token_length y) 0
     at_y = ap (λ (n : ℕ). get_or y n 0) (q ∙ h.1)
 
-    pub same_closed : get_or x k 0 ≡ 15 → get_or y k 0 ≡ 15 → (letters x ≡ letters y) × (token_length x ≡ token_length y)
-    same_closed a b = with_gap (gap-close x m (sym at_x ∙ a) ∙ sym (gap-close y (λ f. m (e ∙ f)) (sym at_y ∙ b)))
-
-    pub same_spaced : (get_or x k 0 ≡ 15 → ⊥) → (get_or y k 0 ≡ 15 → ⊥) → (letters x ≡ letters y) × (token_length x ≡ token_length y)
-    same_spaced a b = with_gap (gap_space x m (λ f. a (at_x ∙ f)) ∙ sym (gap_space y (λ f. m (e ∙ f)) (λ f. b (at_y ∙ f))))
+    pub same_gap : beq (eqb (get_or x k 0) 15) (eqb (get_or y k 0) 15) ≡ true → (letters x ≡ letters y) × (token_length x ≡ token_length y)
+    same_gap h = go (eqb (get_or x k 0) 15) refl (eqb (get_or y k 0) 15) refl h
+      where
+        go : (c : Bool) → eqb (get_or x k 0) 15 ≡ c → (d : Bool) → eqb (get_or y k 0) 15 ≡ d → beq c d ≡ true → (letters x ≡ letters y) × (token_length x ≡ token_length y)
+        go true p true q h = with_gap (gap-close x m (sym at_x ∙ eqb-true (get_or x k 0) 15 p) ∙ sym (gap-close y (λ f. m (e ∙ f)) (sym at_y ∙ eqb-true (get_or y k 0) 15 q)))
+        go false p false q h = with_gap (gap_space x m (λ f. eqb-false (get_or x k 0) 15 p (at_x ∙ f)) ∙ sym (gap_space y (λ f. m (e ∙ f)) (λ f. eqb-false (get_or y k 0) 15 q (at_y ∙ f))))
+        go true p false q h = absurd (true≢false (sym h))
+        go false p true q h = absurd (true≢false (sym h))
 
 -- ---- closes
-
-pub closes_open : (m c : ℕ) → m ≡ 7 → c + 1 ≡ closes_after m c
-unfolding closes_after
-closes_open m c e = rw (eq-eqb m 7 e)
-
-pub closes_one : (m c : ℕ) → m ≡ 15 → c - 1 ≡ closes_after m c
-unfolding closes_after
-closes_one m c e = rw (ne_eqb m 7 (λ f. omega (arith, e, f)), eq-eqb m 15 e)
-
-pub closes_none : (m c : ℕ) → (m ≡ 7 → ⊥) → (m ≡ 15 → ⊥) → c ≡ closes_after m c
-unfolding closes_after
-closes_none m c a b = rw (ne_eqb m 7 a, ne_eqb m 15 b)
 
 after-some : (m c : ℕ) → 0 < c → (m ≡ 15 → 1 < c) → (0 < closes_after m c) × (c ≤ closes_after m c + 1)
 after-some m c l h = go (eqb m 7) refl (eqb m 15) refl
   where
     go : (a : Bool) → eqb m 7 ≡ a → (b : Bool) → eqb m 15 ≡ b → (0 < closes_after m c) × (c ≤ closes_after m c + 1)
     go true p b q = let e = closes_open m c (eqb-true m 7 p) in (omega (arith, e), omega (arith, e))
-    go false p true q = let e = closes_one m c (eqb-true m 15 q) in (omega (arith, e, h (eqb-true m 15 q)), omega (arith, e, h (eqb-true m 15 q)))
-    go false p false q = let e = closes_none m c (eqb-false m 7 p) (eqb-false m 15 q) in (omega (arith, e, l), omega (arith, e))
+    go false p true q = let e = closes_close m c (eqb-true m 15 q) in (omega (arith, e, h (eqb-true m 15 q)), omega (arith, e, h (eqb-true m 15 q)))
+    go false p false q = let e = closes_same m c (eqb-false m 7 p) (eqb-false m 15 q) in (omega (arith, e, l), omega (arith, e))
 
 closing-few : (n c : ℕ) (s : List ℕ) → 0 < c → Closing n c s → c ≤ n + 1
 closing-few zero c s l h = omega (arith, h)

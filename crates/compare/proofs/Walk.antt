@@ -11,14 +11,14 @@ use Rattle.program.specs.Syntax.{Name, Span, Symbol, character, identifier, numb
 use Rattle.program.specs.Bytes.{put32, put_span, put_name}
 use Rattle.program.specs.Encode.{put_symbol, kind_mark, put_terms}
 use Rattle.program.specs.Limits.{Mode, ValidSymbol, ValidTerms}
-use Rattle.image.specs.Parts.{TermsAt}
+use Rattle.image.specs.Parts.{TermsAt, token_length, closes_after}
 use Rattle.program.proofs.Lengths.{span-length, name-length, terms-length}
 use Rattle.image.proofs.Readings.{fewer_around}
 use Rattle.patterns.specs.Ascii.{ascii}
 use Rattle.meaning.specs.Text.{Text, format_symbol, format_kind, gap, format_terms}
 use Rattle.text.specs.FormatTerm.{gap_before, kind_letter}
 use Rattle.text.specs.Parts.{VariableAt}
-use Rattle.compare.specs.Letters.{token_length, token_name, token_text, token_gap, letters, closes_after, TokenIn}
+use Rattle.compare.specs.Letters.{token_name, token_text, token_gap, letters, TokenIn}
 use Rattle.text.proofs.Leaves.{CodeIn, code_in, variable-text}
 use Rattle.compare.proofs.Letters.{length-code, length-name, length_begin, length-close, text-code, text-name, text-variable, text_begin, text-close, gap_begin, gap_not_begin, letters_are, token-long, character-length}
 use Rattle.text.proofs.Formatting.{gap_in}

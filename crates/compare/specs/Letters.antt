@@ -1,14 +1,11 @@
 -- The text of terms letter by letter, as the Rust's `format_terms` prints it. A token is a symbol, a variable, a bracket's beginning or a close; it stands at the start of s and is known by its mark.
-use Rattle.std.specs.Prelude.{ℕ, ◌+◌, ◌-◌, ◌≤◌, ◌<◌, ◌≡◌, cond, List, [], ◌∷◌, ◌++◌, eqb, ltb, length, get_or, take, drop}
+use Rattle.std.specs.Prelude.{ℕ, ◌+◌, ◌-◌, ◌≤◌, ◌<◌, ◌≡◌, Bool, cond, List, [], ◌∷◌, ◌++◌, eqb, ltb, length, get_or, take, drop}
 use Rattle.program.specs.Syntax.{character}
 use Rattle.program.specs.Bytes.{get32}
+use Rattle.image.specs.Parts.{token_length}
 use Rattle.patterns.specs.Ascii.{ascii}
 use Rattle.meaning.specs.Text.{Text, format_symbol}
 use Rattle.text.specs.FormatTerm.{gap_before, kind_letter}
-
--- How many bytes the token has: "1 character (32-bit code); 2 identifier, 3 number; 4 `s.`, 5 `t.`, 6 `e.` variable (a name each); 7 bracket", each with a span, and "Close is 15."
-unfoldable pub token_length : List ℕ → ℕ
-token_length s = cond (eqb (get_or s 0 0) 1) 13 (cond (ltb (get_or s 0 0) 7) (10 + get_or s 9 0) (cond (eqb (get_or s 0 0) 7) 9 1))
 
 -- "A name is a length byte and its bytes": the bytes of the token's name.
 unfoldable pub token_name : List ℕ → Text
@@ -30,11 +27,21 @@ token_gap s = cond (eqb (get_or s 0 0) 7) [] (gap_before (get_or s (token_length
 unfoldable pub letters : List ℕ → Text
 letters s = token_text s ++ token_gap s
 
--- How many closes are to come behind a token with the mark m, the last close among them.
-unfoldable pub closes_after : ℕ → ℕ → ℕ
-closes_after m c = cond (eqb m 7) (c + 1) (cond (eqb m 15) (c - 1) c)
-
 -- A token at the start of s with another one behind it.
 pub record TokenIn (s : List ℕ) : Type 0 where
   pub within : token_length s < length s
   pub low : get_or s 0 0 ≡ 1 → get32 s 9 ≤ 1114111
+
+-- What stands from i on.
+abbrev pub part : List ℕ → ℕ → List ℕ
+part s i = take (length s - i) (drop i s)
+
+-- Letter k of the token at i.
+pub record StandsIn (s : List ℕ) (i k : ℕ) : Type 0 where
+  pub within : i ≤ length s
+  pub token : TokenIn (part s i)
+  pub inside : k < length (letters (part s i))
+
+-- It is the token's last.
+abbrev pub is_last : List ℕ → ℕ → ℕ → Bool
+is_last s i k = eqb (k + 1) (length (letters (part s i)))

@@ -5,15 +5,14 @@
 ghost use Rattle.std.specs.Prelude.{◌≡◌, true, cond, ◌&&◌, ◌∷◌, ◌+◌, ◌<◌, ◌≤◌, eqb, length, get_or};
 ghost use Rattle.program.specs.Syntax.{character};
 ghost use Rattle.program.specs.Limits.{Mode};
-ghost use Rattle.image.specs.Parts.{TermsAt};
+ghost use Rattle.image.specs.Parts.{TermsAt, token_length};
 ghost use Rattle.patterns.specs.Names.{eq_bytes};
 ghost use Rattle.meaning.specs.Text.{utf8, format_symbol, format_terms};
 ghost use Rattle.text.specs.FormatTerm.{kind_letter};
-ghost use Rattle.compare.specs.Letters.{token_length, token_name, token_text, letters, closes_after, TokenIn};
+ghost use Rattle.compare.specs.Letters.{token_name, token_text, letters, TokenIn, part, is_last, StandsIn};
 
 use image::number::read32;
-use image::part::terms_len;
-use symbols::same_bytes;
+use image::part::{closes_after, terms_len, token_len};
 use text::emit::{lead_of_four, lead_of_three, lead_of_two, trail};
 use text::terms::{kind_letter, quote_of};
 
@@ -21,13 +20,12 @@ use text::terms::{kind_letter, quote_of};
 fn code_len(code: u32) -> usize
     ensures { result ≡ length (utf8 code) }
 {
-    if code < 128 {
-        return 1;
+    match code {
+        ..=0x7f => 1,
+        ..=0x7ff => 2,
+        ..=0xffff => 3,
+        _ => 4,
     }
-    if code < 2048 {
-        return 2;
-    }
-    if code < 65536 { 3 } else { 4 }
 }
 
 // Byte k of a code in UTF-8.
@@ -35,34 +33,24 @@ fn code_byte(code: u32, k: usize) -> u8
     requires { (code ≤ 1114111) × (k < length (utf8 code)) }
     ensures { result ≡ get_or (utf8 code) k 0 }
 {
-    if code < 128 {
-        return code as u8;
+    match code {
+        ..=0x7f => code as u8,
+        ..=0x7ff => match k {
+            0 => lead_of_two(code),
+            _ => trail(code),
+        },
+        ..=0xffff => match k {
+            0 => lead_of_three(code),
+            1 => trail(code >> 6),
+            _ => trail(code),
+        },
+        _ => match k {
+            0 => lead_of_four(code),
+            1 => trail(code >> 12),
+            2 => trail(code >> 6),
+            _ => trail(code),
+        },
     }
-    if code < 2048 {
-        if k == 0 {
-            return lead_of_two(code);
-        }
-        return trail(code);
-    }
-    if code < 65536 {
-        if k == 0 {
-            return lead_of_three(code);
-        }
-        if k == 1 {
-            return trail(code >> 6);
-        }
-        return trail(code);
-    }
-    if k == 0 {
-        return lead_of_four(code);
-    }
-    if k == 1 {
-        return trail(code >> 12);
-    }
-    if k == 2 {
-        return trail(code >> 6);
-    }
-    trail(code)
 }
 
 // Letter k of a character between quotes.
@@ -70,13 +58,11 @@ fn character_letter(code: u32, k: usize) -> u8
     requires { (code ≤ 1114111) × (k < length (format_symbol (character code))) }
     ensures { result ≡ get_or (format_symbol (character code)) k 0 }
 {
-    if k == 0 {
-        return quote_of(code);
+    if 0 < k && k <= code_len(code) {
+        code_byte(code, k - 1)
+    } else {
+        quote_of(code)
     }
-    if k <= code_len(code) {
-        return code_byte(code, k - 1);
-    }
-    quote_of(code)
 }
 
 // Letter k of a variable: its kind's letter, a point, its name.
@@ -84,114 +70,11 @@ fn variable_letter(x: &[u8], k: usize) -> u8
     requires { (10 + get_or x.now 9 0 < length x.now) × (k < 2 + get_or x.now 9 0) }
     ensures { result ≡ get_or (kind_letter (get_or x.now 0 0) ∷ 46 ∷ token_name x.now) k 0 }
 {
-    if k == 0 {
-        return kind_letter(x[0]);
+    match k {
+        0 => kind_letter(x[0]),
+        1 => b'.',
+        _ => x[8 + k],
     }
-    if k == 1 {
-        return 46;
-    }
-    x[8 + k]
-}
-
-// How many bytes the token at the start of x has.
-fn token_len(x: &[u8]) -> usize
-    requires { TokenIn x.now }
-    ensures { result ≡ token_length x.now }
-{
-    let m = x[0];
-    if m == 1 {
-        return 13;
-    }
-    if m < 7 {
-        return 10 + x[9] as usize;
-    }
-    if m == 7 { 9 } else { 1 }
-}
-
-// How many letters the token at the start of x has by itself.
-fn text_len(x: &[u8]) -> usize
-    requires { TokenIn x.now }
-    ensures { result ≡ length (token_text x.now) }
-{
-    let m = x[0];
-    if m == 1 {
-        return 2 + code_len(read32(x, 9));
-    }
-    if m < 4 {
-        return x[9] as usize;
-    }
-    if m < 7 {
-        return 2 + x[9] as usize;
-    }
-    1
-}
-
-// How many letters the token at the start of x has, a space behind it among them.
-fn letters_len(x: &[u8]) -> usize
-    requires { TokenIn x.now }
-    ensures { result ≡ length (letters x.now) }
-{
-    let n = text_len(x);
-    if x[0] == 7 {
-        return n;
-    }
-    if x[token_len(x)] == 15 { n } else { n + 1 }
-}
-
-// Letter k of the token at the start of x by itself.
-fn text_letter(x: &[u8], k: usize) -> u8
-    requires { TokenIn x.now × (k < length (token_text x.now)) }
-    ensures { result ≡ get_or (token_text x.now) k 0 }
-{
-    let m = x[0];
-    if m == 1 {
-        return character_letter(read32(x, 9), k);
-    }
-    if m < 4 {
-        return x[10 + k];
-    }
-    if m < 7 {
-        return variable_letter(x, k);
-    }
-    if m == 7 { 40 } else { 41 }
-}
-
-// Letter k of the token at the start of x, or the space behind it.
-fn letter(x: &[u8], k: usize) -> u8
-    requires { TokenIn x.now × (k < length (letters x.now)) }
-    ensures { result ≡ get_or (letters x.now) k 0 }
-{
-    if k < text_len(x) {
-        return text_letter(x, k);
-    }
-    32
-}
-
-// Whether letter k is the last of the token at the start of x.
-fn is_last(x: &[u8], k: usize) -> bool
-    requires { TokenIn x.now × (k < length (letters x.now)) }
-    ensures { result ≡ eqb (k + 1) (length (letters x.now)) }
-{
-    k + 1 == letters_len(x)
-}
-
-// How many bytes the next letter is further: a token's, if this one was the last.
-fn moved(x: &[u8], last: bool) -> usize
-    requires { TokenIn x.now }
-    ensures { result ≡ cond last (token_length x.now) 0 }
-{
-    if last {
-        return token_len(x);
-    }
-    0
-}
-
-// Which letter of its token the next one is.
-fn letter_after(k: usize, last: bool) -> usize
-    requires { k < 18446744073709551615 }
-    ensures { result ≡ cond last 0 (k + 1) }
-{
-    if last { 0 } else { k + 1 }
 }
 
 // The name of the token at the start of x.
@@ -199,59 +82,149 @@ fn token_name(x: &[u8]) -> &[u8]
     requires { 10 + get_or x.now 9 0 ≤ length x.now }
     ensures { result.now ≡ token_name x.now }
 {
-    let end = 10 + x[9] as usize;
+    let end = 10 + usize::from(x[9]);
     &x[10..end]
 }
 
-// Whether two tokens of one mark hold the same: then they print the same by themselves.
-fn same_content(x: &[u8], y: &[u8]) -> bool
-    requires { TokenIn x.now × TokenIn y.now × (get_or x.now 0 0 ≡ get_or y.now 0 0) }
-    ensures { result ≡ true → (token_text x.now ≡ token_text y.now) × (token_length x.now ≡ token_length y.now) }
-{
-    let m = x[0];
-    if m == 1 {
-        return read32(x, 9) == read32(y, 9);
-    }
-    if m < 7 {
-        return same_bytes(token_name(x), token_name(y));
-    }
-    true
+// A token at the start of some bytes, with another one behind it.
+#[derive(Clone, Copy)]
+struct Token<'a> {
+    bytes: &'a [u8],
+    ghost inside: { TokenIn bytes.now },
 }
 
-// The same, with the space behind them.
-fn same_letters(x: &[u8], y: &[u8]) -> bool
-    requires { TokenIn x.now × TokenIn y.now × (get_or x.now 0 0 ≡ get_or y.now 0 0) }
-    ensures { result ≡ true → (letters x.now ≡ letters y.now) × (token_length x.now ≡ token_length y.now) }
-{
-    if !same_content(x, y) {
-        return false;
+impl<'a> Token<'a> {
+    // How many letters it has by itself.
+    fn text_len(self) -> usize
+        ensures { result ≡ length (token_text self.entry.bytes.now) }
+    {
+        let x = self.bytes;
+        match x[0] {
+            1 => 2 + code_len(read32(x, 9)),
+            ..=3 => usize::from(x[9]),
+            4..=6 => 2 + usize::from(x[9]),
+            _ => 1,
+        }
     }
-    if x[0] == 7 {
-        return true;
+
+    // How many letters it has, a space behind it among them.
+    fn letters_len(self) -> usize
+        ensures { result ≡ length (letters self.entry.bytes.now) }
+    {
+        let x = self.bytes;
+        let n = self.text_len();
+        if x[0] == 7 || x[token_len(x)] == 15 {
+            n
+        } else {
+            n + 1
+        }
     }
-    let k = token_len(x);
-    if x[k] == 15 {
-        return y[k] == 15;
+
+    // Its letter k by itself.
+    fn text_letter(self, k: usize) -> u8
+        requires { k < length (token_text self.bytes.now) }
+        ensures { result ≡ get_or (token_text self.entry.bytes.now) k 0 }
+    {
+        let x = self.bytes;
+        match x[0] {
+            1 => character_letter(read32(x, 9), k),
+            ..=3 => x[10 + k],
+            4..=6 => variable_letter(x, k),
+            7 => b'(',
+            _ => b')',
+        }
     }
-    y[k] != 15
+
+    // Its letter k, or the space behind it.
+    fn letter(self, k: usize) -> u8
+        requires { k < length (letters self.bytes.now) }
+        ensures { result ≡ get_or (letters self.entry.bytes.now) k 0 }
+    {
+        if k < self.text_len() {
+            self.text_letter(k)
+        } else {
+            b' '
+        }
+    }
+
+    // Whether another of its mark holds the same: then they print the same by themselves.
+    fn same_content(self, other: Token) -> bool
+        requires { get_or self.bytes.now 0 0 ≡ get_or other.bytes.now 0 0 }
+        ensures { result ≡ true → (token_text self.entry.bytes.now ≡ token_text other.entry.bytes.now) × (token_length self.entry.bytes.now ≡ token_length other.entry.bytes.now) }
+    {
+        let x = self.bytes;
+        let y = other.bytes;
+        match x[0] {
+            1 => read32(x, 9) == read32(y, 9),
+            ..=6 => token_name(x) == token_name(y),
+            _ => true,
+        }
+    }
+
+    // The same, with the space behind them. In steps, since the last test reads the other behind its end, as only the first allows.
+    fn same_letters(self, other: Token) -> bool
+        requires { get_or self.bytes.now 0 0 ≡ get_or other.bytes.now 0 0 }
+        ensures { result ≡ true → (letters self.entry.bytes.now ≡ letters other.entry.bytes.now) × (token_length self.entry.bytes.now ≡ token_length other.entry.bytes.now) }
+    {
+        if !self.same_content(other) {
+            return false;
+        }
+        let x = self.bytes;
+        let y = other.bytes;
+        if x[0] == 7 {
+            return true;
+        }
+        let k = token_len(x);
+        (x[k] == 15) == (y[k] == 15)
+    }
 }
 
-// How many closes are to come behind the mark m.
-fn closes_after(m: u8, closes: usize) -> usize
-    requires { (0 < closes) × (closes < 18446744073709551615) }
-    ensures { result ≡ closes_after m closes }
-{
-    if m == 7 {
-        return closes + 1;
+// Where a letter stands: the nth of the token at `token`.
+#[derive(Clone, Copy)]
+struct LetterAt {
+    token: usize,
+    nth: usize,
+}
+
+impl LetterAt {
+    fn read(self, s: &[u8]) -> u8
+        requires { StandsIn s.now self.token self.nth }
+        ensures { result ≡ get_or (letters (part s.now self.token)) self.nth 0 }
+    {
+        let x = Token {
+            bytes: &s[self.token..],
+        };
+        x.letter(self.nth)
     }
-    if m == 15 { closes - 1 } else { closes }
+
+    // The one behind it: the next of the token, or the first of the token behind.
+    fn next(self, s: &[u8]) -> LetterAt
+        requires { StandsIn s.now self.token self.nth }
+        ensures token { result.token ≡ self.token + cond (is_last s.now self.token self.nth) (token_length (part s.now self.token)) 0 }
+        ensures nth { result.nth ≡ cond (is_last s.now self.token self.nth) 0 (self.nth + 1) }
+    {
+        let x = Token {
+            bytes: &s[self.token..],
+        };
+        if self.nth + 1 == x.letters_len() {
+            LetterAt {
+                token: self.token + token_len(x.bytes),
+                nth: 0,
+            }
+        } else {
+            LetterAt {
+                token: self.token,
+                nth: self.nth + 1,
+            }
+        }
+    }
 }
 
 // Whether the mark m is the last of so many closes.
 fn is_end(m: u8, closes: usize) -> bool
     ensures { result ≡ (eqb m 15 && eqb closes 1) }
 {
-    if m == 15 { closes == 1 } else { false }
+    m == 15 && closes == 1
 }
 
 // Whether two sequences of terms have the same tokens, whatever their spans: most texts that are the same are so told, token by
@@ -272,7 +245,7 @@ fn same_tokens(a: &[u8], b: &[u8]) -> bool
         if is_end(m, closes) {
             return true;
         }
-        if !same_letters(x, y) {
+        if !(Token { bytes: x }).same_letters(Token { bytes: y }) {
             return false;
         }
         closes = closes_after(m, closes);
@@ -290,25 +263,17 @@ pub fn same_text(a: &[u8], b: &[u8]) -> bool
     }
     let m = terms_len(a) - 1;
     let n = terms_len(b) - 1;
-    let mut i: usize = 0;
-    let mut k: usize = 0;
-    let mut j: usize = 0;
-    let mut l: usize = 0;
-    while i < m {
-        if n <= j {
+    let mut one = LetterAt { token: 0, nth: 0 };
+    let mut two = LetterAt { token: 0, nth: 0 };
+    while one.token < m {
+        if n <= two.token {
             return false;
         }
-        let x = &a[i..];
-        let y = &b[j..];
-        if letter(x, k) != letter(y, l) {
+        if one.read(a) != two.read(b) {
             return false;
         }
-        let p = is_last(x, k);
-        let q = is_last(y, l);
-        i += moved(x, p);
-        j += moved(y, q);
-        k = letter_after(k, p);
-        l = letter_after(l, q);
+        one = one.next(a);
+        two = two.next(b);
     }
-    n <= j
+    n <= two.token
 }

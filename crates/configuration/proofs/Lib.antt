@@ -2,6 +2,5 @@ pub mod Tokens
 pub mod Spans
 pub mod Numbering
 pub mod Scan
-pub mod Closes
 pub mod Lockstep
 pub mod Alike

@@ -18,9 +18,10 @@ use Rattle.patterns.specs.Names.{caseless, eq_bytes}
 use Rattle.patterns.specs.Symbols.{eq_symbol}
 use Rattle.patterns.specs.Equality.{eq_span, eq_kind, eq_terms}
 use Rattle.patterns.specs.Configuration.{position, seen_with, names_after, canonical_from, canonical_configuration, same_configuration}
-use Rattle.configuration.specs.Lockstep.{after_token, same_token, first_name, Pair, pairs, alike, Step, StepAt, Path, names_met, closes_after, Walked, WalkedTo}
+use Rattle.image.specs.Parts.{closes_after}
+use Rattle.configuration.specs.Lockstep.{after_token, same_token, first_name, Pair, pairs, alike, Step, StepAt, Path, names_met, Walked, WalkedTo}
 use Rattle.configuration.proofs.Tokens.{mark, mark-is, symbol_low, kind_range, tokens_differ, token-less, names-together}
-use Rattle.configuration.proofs.Closes.{closes_open, closes_close, closes_same}
+use Rattle.image.proofs.Closes.{closes_open, closes_close, closes_same}
 use Rattle.configuration.proofs.Scan.{part, to_part, from_part}
 use Rattle.configuration.proofs.Numbering.{Numbered, numbered-none, numbering_decides, numbered_more}
 

@@ -1,13 +1,13 @@
 -- Spans and spellings by their bytes.
 use Prim.Native.Nat.{ℕ, ◌-◌, ◌≤◌}
 use native.Mathlib.Omega.{arith}
-use mathlib.Core.Path.{◌≡◌, refl, sym, ap, ◌∙◌}
+use mathlib.Core.Path.{◌≡◌, refl, sym, ap, ap₂, ◌∙◌}
 use mathlib.Core.Bool.{Bool, true, false, true≢false, ◌&&◌}
 use mathlib.Core.List.{List}
 use lib.Dec.{eqb}
-use borrow.Author.Tests.{ne_eqb, eq-eqb, eqb-true}
+use borrow.Author.Tests.{eq-eqb, eqb-true}
 use lib.ListN.{length, get_or, take, drop}
-use Rattle.program.specs.Syntax.{Symbol}
+use Rattle.program.specs.Syntax.{Span, Symbol}
 use Rattle.program.specs.Bytes.{put32, put_span, get32, get_span}
 use Rattle.image.specs.Parts.{NameAt}
 use Rattle.program.proofs.Numbers.{get32-put32}
@@ -32,19 +32,15 @@ module _ {s : List ℕ} (x : SpanAt s) where
   end_read = ap (λ (l : List ℕ). get32 l 5) x.is ∙ get32-put32 x.span.end x.rest x.valid.1
 
 module _ {a b : List ℕ} (x : SpanAt a) (y : SpanAt b) where
-  pub starts_differ : ((get_span a 1).start ≡ (get_span b 1).start → ⊥) → eq_span x.span y.span ≡ false
+  pub spans_compared : (r s : Span) → (r.start ≡ (get_span a 1).start) × (r.end ≡ (get_span a 1).end) → (s.start ≡ (get_span b 1).start) × (s.end ≡ (get_span b 1).end) → eqb r.start s.start && eqb r.end s.end ≡ eq_span x.span y.span
   unfolding eq_span
-  starts_differ h = ap (λ (t : Bool). t && eqb x.span.end y.span.end) (ne_eqb x.span.start y.span.start (λ e. h (start_read x ∙ (e ∙ sym (start_read y)))))
-
-  pub ends_decide : (get_span a 1).start ≡ (get_span b 1).start → eqb (get_span a 1).end (get_span b 1).end ≡ eq_span x.span y.span
-  unfolding eq_span
-  ends_decide e =
-      let z : x.span.start ≡ y.span.start = sym (start_read x) ∙ (e ∙ start_read y) in
-      ap (λ (i : ℕ). eqb i (get_span b 1).end) (end_read x) ∙ (ap (λ (i : ℕ). eqb x.span.end i) (end_read y)
-      ∙ sym (ap (λ (t : Bool). t && eqb x.span.end y.span.end) (eq-eqb x.span.start y.span.start z)))
+  spans_compared r s h k =
+      ap₂ (λ (t u : Bool). t && u)
+      (ap₂ eqb (h.0 ∙ start_read x) (k.0 ∙ start_read y))
+      (ap₂ eqb (h.1 ∙ end_read x) (k.1 ∙ end_read y))
 
 -- Two symbols of one sort.
-pub codes_spelled : {a b : List ℕ} {x y : Symbol} (c : CodeAt a x) (d : CodeAt b y) → eq_bytes (take 4 (drop 9 a)) (take 4 (drop 9 b)) ≡ eq_symbol x y
+pub codes_spelled : {a b : List ℕ} {x y : Symbol} (c : CodeAt a x) (d : CodeAt b y) → eqb (get32 a 9) (get32 b 9) ≡ eq_symbol x y
 unfolding same_symbol key eq_symbol
 codes_spelled {a} {b} {x} {y} c d = codes_compared c d ∙ same
   where
@@ -52,7 +48,7 @@ codes_spelled {a} {b} {x} {y} c d = codes_compared c d ∙ same
     same = rw (c.is, d.is)
 
 module _ {a b : List ℕ} (x : SymbolAt a) (y : SymbolAt b) (e : get_or a 0 0 ≡ get_or b 0 0) where
-  pub characters_spelled : get_or a 0 0 ≡ 1 → eq_bytes (take 4 (drop 9 a)) (take 4 (drop 9 b)) ≡ eq_symbol x.symbol y.symbol
+  pub characters_spelled : get_or a 0 0 ≡ 1 → eqb (get32 a 9) (get32 b 9) ≡ eq_symbol x.symbol y.symbol
   characters_spelled m = codes_spelled (code_at x m) (code_at y (sym e ∙ m))
 
   pub characters_room : get_or a 0 0 ≡ 1 → (13 ≤ length a) × (13 ≤ length b)

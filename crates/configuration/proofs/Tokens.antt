@@ -1,7 +1,7 @@
 -- What the first tokens of two patterns say of their bytes.
 use Prim.Native.Nat.{ℕ, ◌-◌, ◌≤◌, ◌<◌}
 use native.Mathlib.Omega.{arith}
-use mathlib.Core.Path.{◌≡◌, refl, sym, ap, ◌∙◌}
+use mathlib.Core.Path.{◌≡◌, refl, sym, ap, subst, ◌∙◌}
 use mathlib.Core.Logic.{◌⊎◌, inl, inr}
 use mathlib.Core.Bool.{Bool, true, false, ◌&&◌}
 use mathlib.Core.List.{List, [], ◌∷◌}
@@ -10,7 +10,8 @@ use Rattle.program.specs.Syntax.{Name, Span, Symbol, character, identifier, numb
 use Rattle.program.specs.Bytes.{put32, put_span, put_name}
 use Rattle.program.specs.Encode.{put_symbol, kind_mark, put_terms}
 use Rattle.program.specs.Limits.{Mode, ValidSpan, ValidTerms}
-use Rattle.image.specs.Parts.{Passes, NameAt, TermsAt, tail}
+use Rattle.image.specs.Parts.{Passes, NameAt, TermsAt, token_length}
+use Rattle.image.proofs.Readings.{flat_one}
 use Rattle.program.proofs.Lengths.{span-length, name-length, symbol-length, terms-length}
 use Rattle.patterns.specs.Names.{caseless, same_name}
 use Rattle.patterns.specs.Symbols.{eq_symbol}
@@ -245,36 +246,18 @@ unfolding same_token
 both_closed t u a b = ap (λ (x : Terms). same_token x u) (closed_is t a) ∙ ap (same_token nil) (closed_is u b)
 
 -- Behind the first token.
-close-token : (t : Terms) (k : List ℕ) → mark t ≡ 15 → drop 1 (put_terms t k) ≡ after_token t k
-unfolding put_terms after_token kind_mark
-close-token nil k e = refl
-close-token (symbol s x r) k e = absurd (omega (arith, e, symbol_low x))
-close-token (variable s s_kind n r) k e = absurd (omega (arith, e))
-close-token (variable s t_kind n r) k e = absurd (omega (arith, e))
-close-token (variable s e_kind n r) k e = absurd (omega (arith, e))
-close-token (bracket s i r) k e = absurd (omega (arith, e))
-close-token (call s f a r) k e = absurd (omega (arith, e))
-close-token (block s a b r) k e = absurd (omega (arith, e))
-
-bracket-token : (t : Terms) (k : List ℕ) → mark t ≡ 7 → Passes (put_terms t k) 9 (after_token t k)
-unfolding put_terms after_token kind_mark put_span put32
-bracket-token nil k e = absurd (omega (arith, e))
-bracket-token (symbol s x r) k e = absurd (omega (arith, e, symbol_low x))
-bracket-token (variable s s_kind n r) k e = absurd (omega (arith, e))
-bracket-token (variable s t_kind n r) k e = absurd (omega (arith, e))
-bracket-token (variable s e_kind n r) k e = absurd (omega (arith, e))
-bracket-token (bracket s i r) k e = record { fits = omega arith; left = refl }
-bracket-token (call s f a r) k e = absurd (omega (arith, e))
-bracket-token (block s a b r) k e = absurd (omega (arith, e))
-
-flat_token : (t : Terms) (k : List ℕ) → Fits t → (mark t ≡ 15 → ⊥) → (mark t ≡ 7 → ⊥) → put_terms (tail t) k ≡ after_token t k
-unfolding after_token tail
-flat_token nil k h m n = absurd (m refl)
-flat_token (symbol s x r) k h m n = refl
-flat_token (variable s v a r) k h m n = refl
-flat_token (bracket s i r) k h m n = absurd (n refl)
-flat_token (call s f a r) k h m n = absurd h.2
-flat_token (block s a b r) k h m n = absurd h.2
+token-put : (t : Terms) (k : List ℕ) → Fits t → Passes (put_terms t k) (token_length (put_terms t k)) (after_token t k)
+unfolding put_terms put_symbol kind_mark token_length after_token put_span put32
+token-put nil k h = record { fits = omega arith; left = refl }
+token-put (symbol s (character c) r) k h = record { fits = omega arith; left = refl }
+token-put (symbol s (identifier n) r) k h = flat_one 2 s n (put_terms r k)
+token-put (symbol s (number n) r) k h = flat_one 3 s n (put_terms r k)
+token-put (variable s s_kind n r) k h = flat_one 4 s n (put_terms r k)
+token-put (variable s t_kind n r) k h = flat_one 5 s n (put_terms r k)
+token-put (variable s e_kind n r) k h = flat_one 6 s n (put_terms r k)
+token-put (bracket s i r) k h = record { fits = omega arith; left = refl }
+token-put (call s f a r) k h = absurd h.2
+token-put (block s a b r) k h = absurd h.2
 
 pub token-less : (t : Terms) (k : List ℕ) → Fits t → length (after_token t k) < length (put_terms t k)
 unfolding put_terms after_token
@@ -345,16 +328,12 @@ module _ {s : List ℕ} (t : TermsAt Mode.pattern s) where
   pub pattern-room : 0 < length s
   pattern-room = omega (arith, ap length t.is, terms-length t.terms t.rest)
 
-  pub close_passed : get_or s 0 0 ≡ 15 → Passes s 1 (after_token t.terms t.rest)
-  close_passed e = record { fits = omega (arith, pattern-room); left = ap (drop 1) t.is ∙ close-token t.terms t.rest (sym (mark-is t) ∙ e) }
+  pub token-passes : {n : ℕ} → n ≡ token_length s → Passes s n (after_token t.terms t.rest)
+  token-passes e = subst (λ (i : ℕ). Passes s i (after_token t.terms t.rest)) (sym e) (subst (λ (l : List ℕ). Passes l (token_length l) (after_token t.terms t.rest)) (sym t.is) (token-put t.terms t.rest t.valid))
 
-  pub bracket_passed : get_or s 0 0 ≡ 7 → Passes s 9 (after_token t.terms t.rest)
-  bracket_passed e =
-      let h = bracket-token t.terms t.rest (sym (mark-is t) ∙ e) in
-      record { fits = omega (arith, ap length t.is, h.fits); left = ap (drop 9) t.is ∙ h.left }
-
-  pub flat_passed : (n : ℕ) → (get_or s 0 0 ≡ 15 → ⊥) → (get_or s 0 0 ≡ 7 → ⊥) → Passes s n (put_terms (tail t.terms) t.rest) → Passes s n (after_token t.terms t.rest)
-  flat_passed n a b h = record { fits = h.fits; left = h.left ∙ flat_token t.terms t.rest t.valid (λ e. a (mark-is t ∙ e)) (λ e. b (mark-is t ∙ e)) }
+  -- What the length of a token asks for.
+  pub token-here : (0 < length s) × (token_length s ≤ length s)
+  token-here = (pattern-room, (token-passes refl).fits)
 
   module _ (m : get_or s 0 0 ≡ 15 → ⊥) where
     pub span-here : (r : List ℕ) × ((put_terms t.terms t.rest ≡ mark t.terms ∷ put_span (span_of t.terms) r) × ValidSpan (span_of t.terms))
@@ -400,6 +379,13 @@ module _ {a b : List ℕ} (p : TermsAt Mode.pattern a) (q : TermsAt Mode.pattern
 
     pub no-literal : (get_or a 0 0 ≡ 15 → ⊥) → 3 < get_or a 0 0 → eq_span (span_of p.terms) (span_of q.terms) ≡ true → same_token p.terms q.terms ≡ true
     no-literal h l = high_same p.terms q.terms p.valid q.valid marks-same (λ k. h (mark-is p ∙ k)) (omega (arith, l, mark-is p))
+
+    pub spans_decide : (get_or a 0 0 ≡ 15 → ⊥) → 3 < get_or a 0 0 → eq_span (span_of p.terms) (span_of q.terms) ≡ same_token p.terms q.terms
+    spans_decide h l = go (eq_span (span_of p.terms) (span_of q.terms)) refl
+      where
+        go : (t : Bool) → eq_span (span_of p.terms) (span_of q.terms) ≡ t → t ≡ same_token p.terms q.terms
+        go true e = sym (no-literal h l e)
+        go false e = sym (span_differs h e)
 
     module _ (l : get_or a 0 0 ≤ 3) where
       pub literals-here : SymbolsHere p.terms q.terms p.rest q.rest

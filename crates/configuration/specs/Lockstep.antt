@@ -1,5 +1,5 @@
 -- Two arguments token by token, "once variable names are numbered by first appearance": a token is a symbol, a variable, a bracket's beginning or a close.
-use Rattle.std.specs.Prelude.{ℕ, ◌+◌, ◌-◌, ◌<◌, ◌≡◌, Bool, true, false, ◌&&◌, cond, List, [], ◌∷◌, ◌++◌, eqb, length, get_or, drop}
+use Rattle.std.specs.Prelude.{ℕ, ◌+◌, ◌<◌, ◌≡◌, Bool, true, false, ◌&&◌, cond, List, [], ◌∷◌, ◌++◌, length, get_or, drop}
 use Rattle.program.specs.Syntax.{Name, Span, Terms, nil, symbol, variable, bracket, call, block}
 use Rattle.program.specs.Bytes.{put_span}
 use Rattle.program.specs.Encode.{put_terms}
@@ -120,10 +120,6 @@ pub record WalkedTo (a b : List ℕ) (i j : ℕ) : Type 0 where
   pub one : TermsAt Mode.pattern (drop i a)
   pub two : TermsAt Mode.pattern (drop j b)
   pub marks : get_or (drop i a) 0 0 ≡ get_or (drop j b) 0 0
-
--- The closes to come after the mark m.
-unfoldable pub closes_after : ℕ → ℕ → ℕ
-closes_after m n = cond (eqb m 7) (n + 1) (cond (eqb m 15) (n - 1) n)
 
 -- A record begins with its mark and its span.
 pub record SpanAt (s : List ℕ) : Type 0 where

@@ -3,32 +3,17 @@
 
 ghost use Rattle.std.specs.Prelude.{◌≡◌, ◌<◌, ◌≤◌, length, get_or};
 ghost use Rattle.program.specs.Limits.{Mode};
-ghost use Rattle.image.specs.Parts.{Passes, TermsAt};
+ghost use Rattle.image.specs.Parts.{TermsAt};
 ghost use Rattle.patterns.specs.Names.{caseless};
 ghost use Rattle.patterns.specs.Symbols.{eq_symbol};
 ghost use Rattle.symbols.specs.Parts.{SymbolAt};
 ghost use Rattle.patterns.specs.Equality.{eq_span};
 ghost use Rattle.patterns.specs.Configuration.{same_configuration};
-ghost use Rattle.configuration.specs.Lockstep.{after_token, same_token, first_name, meets, first_both, alike, names_met, closes_after, Walked, WalkedTo, SpanAt};
+ghost use Rattle.configuration.specs.Lockstep.{same_token, first_name, meets, first_both, alike, names_met, Walked, WalkedTo, SpanAt};
 
-use image::number::span_at;
-use image::part::{name_part, term_len};
-use symbols::{same_bytes, same_name};
-
-// The length of the first token of the terms at the start of s.
-fn token_len(s: &[u8]) -> usize
-    requires { TermsAt Mode.pattern s.now }
-    ensures { (t : TermsAt Mode.pattern s.now) → Passes s.now result (after_token t.terms t.rest) }
-{
-    let m = s[0];
-    if m == 15 {
-        return 1;
-    }
-    if m == 7 {
-        return 9;
-    }
-    term_len(s)
-}
+use image::number::{read32, span_at};
+use image::part::{closes_after, name_part, token_len};
+use symbols::same_name;
 
 // Whether the records at the starts of a and b have the same span.
 fn same_span(a: &[u8], b: &[u8]) -> bool
@@ -37,10 +22,7 @@ fn same_span(a: &[u8], b: &[u8]) -> bool
 {
     let x = span_at(a, 1);
     let y = span_at(b, 1);
-    if x.start != y.start {
-        return false;
-    }
-    x.end == y.end
+    x == y
 }
 
 // Whether two symbols of one sort, each at the start of its part, are spelled alike.
@@ -49,9 +31,10 @@ fn same_spelling(a: &[u8], b: &[u8]) -> bool
     ensures { (x : SymbolAt a.now) (y : SymbolAt b.now) → result ≡ eq_symbol x.symbol y.symbol }
 {
     if a[0] == 1 {
-        return same_bytes(&a[9..13], &b[9..13]);
+        read32(a, 9) == read32(b, 9)
+    } else {
+        name_part(&a[9..]) == name_part(&b[9..])
     }
-    same_bytes(name_part(&a[9..]), name_part(&b[9..]))
 }
 
 // Whether the first tokens are the same, but for variables' names: identifiers by exact spelling, spans included.
@@ -63,16 +46,11 @@ fn same_token(a: &[u8], b: &[u8]) -> bool
     if m != b[0] {
         return false;
     }
-    if m == 15 {
-        return true;
+    match m {
+        15 => true,
+        ..=3 => same_span(a, b) && same_spelling(a, b),
+        _ => same_span(a, b),
     }
-    if same_span(a, b) {
-        if 3 < m {
-            return true;
-        }
-        return same_spelling(a, b);
-    }
-    false
 }
 
 // Whether s begins with a variable of that name, case ignored.
@@ -80,16 +58,13 @@ fn meets_name(s: &[u8], name: &[u8]) -> bool
     requires { TermsAt Mode.pattern s.now }
     ensures { (t : TermsAt Mode.pattern s.now) → result ≡ meets (first_name t.terms) (caseless name.now) }
 {
-    let m = s[0];
-    if m < 4 {
-        return false;
+    match s[0] {
+        4..=6 => same_name(name_part(&s[9..]), name),
+        _ => false,
     }
-    if 6 < m {
-        return false;
-    }
-    same_name(name_part(&s[9..]), name)
 }
 
+// The places i of a and j of b stay four parameters, here and below: a struct of them would be no plainer, since its invariant speaks of the walk that led there.
 // Whether both names are new before i and j, or both are first seen at the same earlier place.
 fn first_seen_alike(a: &[u8], b: &[u8], i: usize, j: usize, n: &[u8], m: &[u8]) -> bool
     requires { (i ≤ length a.now) × (j ≤ length b.now) × Walked a.now b.now i j }
@@ -121,25 +96,10 @@ fn same_numbering(a: &[u8], b: &[u8], i: usize, j: usize) -> bool
 {
     let u = &a[i..];
     let v = &b[j..];
-    let k = u[0];
-    if k < 4 {
-        return true;
+    match u[0] {
+        4..=6 => first_seen_alike(a, b, i, j, name_part(&u[9..]), name_part(&v[9..])),
+        _ => true,
     }
-    if 6 < k {
-        return true;
-    }
-    first_seen_alike(a, b, i, j, name_part(&u[9..]), name_part(&v[9..]))
-}
-
-// How many closes are to come after the mark m.
-fn closes_after(m: u8, closes: usize) -> usize
-    requires { (0 < closes) × (closes < 18446744073709551615) }
-    ensures { result ≡ closes_after m closes }
-{
-    if m == 7 {
-        return closes + 1;
-    }
-    if m == 15 { closes - 1 } else { closes }
 }
 
 // Whether two arguments are equal once variable names are numbered by first appearance.
@@ -153,17 +113,12 @@ pub fn same_configuration(a: &[u8], b: &[u8]) -> bool
     while 0 < closes {
         let x = &a[i..];
         let y = &b[j..];
-        if same_token(x, y) {
-            if same_numbering(a, b, i, j) {
-                closes = closes_after(x[0], closes);
-                i += token_len(x);
-                j += token_len(y);
-            } else {
-                return false;
-            }
-        } else {
+        if !same_token(x, y) || !same_numbering(a, b, i, j) {
             return false;
         }
+        closes = closes_after(x[0], closes);
+        i += token_len(x);
+        j += token_len(y);
     }
     true
 }

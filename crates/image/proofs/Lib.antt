@@ -1,3 +1,4 @@
+pub mod Closes
 pub mod Skip
 pub mod Readings
 pub mod Accepted

@@ -150,7 +150,7 @@ flat_code (bracket s t r) k e = absurd (omega arith)
 flat_code (call s n t r) k e = absurd (omega arith)
 flat_code (block s t b r) k e = absurd (omega arith)
 
-flat_one : (v : ℕ) (p : Span) (n : Name) (k : List ℕ) → Passes (v ∷ put_span p (put_name n k)) (10 + get_or (v ∷ put_span p (put_name n k)) 9 0) k
+pub flat_one : (v : ℕ) (p : Span) (n : Name) (k : List ℕ) → Passes (v ∷ put_span p (put_name n k)) (10 + get_or (v ∷ put_span p (put_name n k)) 9 0) k
 flat_one v p n k =
     let z : 10 + get_or (put_span p (put_name n k)) 8 0 ≡ suc (9 + get_or (put_span p (put_name n k)) 8 0) = omega arith in
     rw z (record { fits = omega (arith, name-room p n k); left = drop-name p n k })

@@ -4,9 +4,8 @@ use native.Mathlib.Omega.{arith}
 use mathlib.Core.Path.{◌≡◌, refl, sym, ap, ◌∙◌}
 use mathlib.Core.Bool.{Bool, true, false}
 use mathlib.Core.List.{List, [], ◌∷◌, ◌++◌}
-use mathlib.Core.Logic.{◌⊎◌, inl, inr}
 use lib.Dec.{leb}
-use borrow.Author.Tests.{leb-true, leb-false, ne_eqb}
+use borrow.Author.Tests.{leb-true, leb-false}
 use lib.ListN.{length, get_or, drop, drop_of_length-le}
 use lib.Seq.{drop-cons, drop-drop, get_or-drop}
 use Rattle.program.specs.Syntax.{Name, Span, Symbol, character, identifier, number, Kind, s_kind, t_kind, e_kind, Head, Terms, nil, symbol, variable, bracket, call, block, Conditions, none, condition, Sentences, empty, sentence}
@@ -159,56 +158,8 @@ owed-few m n = owed_cases (λ j. j ≤ n + 3) m n (λ e. omega arith) (λ j l h.
 pub owed-some : (m n : ℕ) → (m ≡ 15 → ⊥) → 0 < owed m n
 owed-some m n h = owed_cases (λ j. 0 < j) m n (λ e. absurd (h e)) (λ j l u. omega arith)
 
-module _ (v need : ℕ) (h : 0 < need) where
-  pub owed-one : (v ≡ 7) ⊎ (v ≡ 8) → need + 1 ≡ owed v (need - 1)
-  unfolding owed
-  owed-one (inl e) = rw e (omega arith)
-  owed-one (inr e) = rw e (omega arith)
-
-  pub owed-two : (v ≡ 9) ⊎ ((v ≡ 10) ⊎ (v ≡ 11)) → need + 2 ≡ owed v (need - 1)
-  unfolding owed
-  owed-two (inl e) = rw e (omega arith)
-  owed-two (inr (inl e)) = rw e (omega arith)
-  owed-two (inr (inr e)) = rw e (omega arith)
-
-  pub owed-less : v ≡ 15 → need - 1 ≡ owed v (need - 1)
-  unfolding owed
-  owed-less e = rw e
-
-  pub owed_same : (v ≡ 7 → ⊥) → (v ≡ 8 → ⊥) → (v ≡ 9 → ⊥) → (v ≡ 10 → ⊥) → (v ≡ 11 → ⊥) → (v ≡ 15 → ⊥) → need ≡ owed v (need - 1)
-  unfolding owed
-  owed_same n7 n8 n9 n10 n11 n15 =
-      rw (ne_eqb v 7 n7, ne_eqb v 8 n8, ne_eqb v 9 n9, ne_eqb v 10 n10, ne_eqb v 11 n11, ne_eqb v 15 n15) (omega arith)
-
--- The bytes of each mark.
-module _ (s : List ℕ) (p v : ℕ) where
-  pub fields-code : v ≡ 1 → 12 ≡ fields v (drop (suc p) s)
-  unfolding fields
-  fields-code e = rw e
-
-  pub fields-span : (v ≡ 7) ⊎ ((v ≡ 9) ⊎ ((v ≡ 10) ⊎ (v ≡ 11))) → 8 ≡ fields v (drop (suc p) s)
-  unfolding fields
-  fields-span (inl e) = rw e
-  fields-span (inr (inl e)) = rw e
-  fields-span (inr (inr (inl e))) = rw e
-  fields-span (inr (inr (inr e))) = rw e
-
-  name-at : get_or (drop (suc p) s) 8 0 ≡ get_or s (p + 9) 0
-  name-at = get_or-drop (suc p) s 8 0 ∙ ap (λ (i : ℕ). get_or s i 0) (omega arith)
-
-  pub fields-name : (v ≡ 2) ⊎ ((v ≡ 3) ⊎ ((v ≡ 4) ⊎ ((v ≡ 5) ⊎ ((v ≡ 6) ⊎ (v ≡ 8))))) → {l : ℕ} → l ≡ get_or s (p + 9) 0 → 9 + l ≡ fields v (drop (suc p) s)
-  unfolding fields
-  fields-name (inl e) q = rw (e, q, name-at)
-  fields-name (inr (inl e)) q = rw (e, q, name-at)
-  fields-name (inr (inr (inl e))) q = rw (e, q, name-at)
-  fields-name (inr (inr (inr (inl e)))) q = rw (e, q, name-at)
-  fields-name (inr (inr (inr (inr (inl e))))) q = rw (e, q, name-at)
-  fields-name (inr (inr (inr (inr (inr e))))) q = rw (e, q, name-at)
-
-  pub fields-none : (v ≡ 1 → ⊥) → (v ≡ 2 → ⊥) → (v ≡ 3 → ⊥) → (v ≡ 4 → ⊥) → (v ≡ 5 → ⊥) → (v ≡ 6 → ⊥) → (v ≡ 7 → ⊥) → (v ≡ 8 → ⊥) → (v ≡ 9 → ⊥) → (v ≡ 10 → ⊥) → (v ≡ 11 → ⊥) → 0 ≡ fields v (drop (suc p) s)
-  unfolding fields
-  fields-none n1 n2 n3 n4 n5 n6 n7 n8 n9 n10 n11 =
-      rw (ne_eqb v 1 n1, ne_eqb v 2 n2, ne_eqb v 3 n3, ne_eqb v 4 n4, ne_eqb v 5 n5, ne_eqb v 6 n6, ne_eqb v 7 n7, ne_eqb v 8 n8, ne_eqb v 9 n9, ne_eqb v 10 n10, ne_eqb v 11 n11)
+pub name_at : (s : List ℕ) (p : ℕ) → get_or (drop (suc p) s) 8 0 ≡ get_or s (p + 9) 0
+name_at s p = get_or-drop (suc p) s 8 0 ∙ ap (λ (i : ℕ). get_or s i 0) (omega arith)
 
 -- The walk to a close: what holds at the loop's head
 pub record Passed (s : List ℕ) (at from p need : ℕ) : Type 0 where

@@ -1,10 +1,11 @@
 // Parts of an image: how long a record is, where its parts stand, and the way from one record to the next.
+// Marks stay numbers, as the definition of the bytes writes them: the arms are ranges of them, and an enum would be made of a byte only to be matched once.
 ghost use Rattle.std.specs.Prelude.{◌≡◌, ◌∷◌, suc, ◌+◌, ◌-◌, ◌*◌, ◌<◌, ◌≤◌, min, length, get_or, take, drop};
 ghost use Rattle.program.specs.Encode.{put_terms, put_conditions, put_sentences, put_functions, own_sentence_count};
 ghost use Rattle.program.specs.Limits.{Mode};
 ghost use Rattle.program.specs.Decode.{body_length};
 ghost use Rattle.image.specs.Skip.{owed, fields, pass};
-ghost use Rattle.image.specs.Parts.{Passes, NameAt, TermsAt, tail, SentenceAt, FunctionAt, FunctionsAt, FoundIn, Accepted};
+ghost use Rattle.image.specs.Parts.{Passes, NameAt, TermsAt, tail, SentenceAt, FunctionAt, FunctionsAt, FoundIn, Accepted, token_length, closes_after};
 ghost use Rattle.program.specs.Sentences.{own_sentences};
 
 use crate::number::{read16, read32};
@@ -13,51 +14,35 @@ use crate::number::{read16, read32};
 fn byte_or(s: &[u8], i: usize) -> usize
     ensures { (result ≡ get_or s.now i 0) × (result < 256) }
 {
-    if i < s.len() { s[i] as usize } else { 0 }
+    s.get(i).map_or(0, |b| usize::from(*b))
 }
 
 // How many bytes belong to the mark at p.
+#[tactic(auto, using(std::proofs::lemmas::Bool::Decides::nat_tests), unfolding(crate::specs::Skip::fields))]
 fn fields_of(s: &[u8], p: usize) -> usize
     requires { p < length s.now }
     ensures { (result ≡ fields (get_or s.now p 0) (drop (suc p) s.now)) × (result < 512) }
 {
-    let m = s[p];
-    match m {
+    match s[p] {
         1 => 12,
-        2 => 9 + byte_or(s, p + 9),
-        3 => 9 + byte_or(s, p + 9),
-        4 => 9 + byte_or(s, p + 9),
-        5 => 9 + byte_or(s, p + 9),
-        6 => 9 + byte_or(s, p + 9),
-        7 => 8,
-        8 => 9 + byte_or(s, p + 9),
-        9 => 8,
-        10 => 8,
-        11 => 8,
+        2..=6 | 8 => 9 + byte_or(s, p + 9),
+        7 | 9..=11 => 8,
         _ => 0,
     }
 }
 
 // How many closes are owed after the mark m.
+#[tactic(auto, using(std::proofs::lemmas::Bool::Decides::nat_tests), unfolding(crate::specs::Skip::owed))]
 fn owed_after(m: u8, need: usize) -> usize
     requires { (0 < need) × (need < 18446744073709551614) }
     ensures { (result ≡ owed m (need - 1)) × (result ≤ need + 2) }
 {
     match m {
-        7 => need + 1,
-        8 => need + 1,
-        9 => need + 2,
-        10 => need + 2,
-        11 => need + 2,
+        7 | 8 => need + 1,
+        9..=11 => need + 2,
         15 => need - 1,
         _ => need,
     }
-}
-
-fn least(a: usize, b: usize) -> usize
-    ensures { result ≡ min a b }
-{
-    if a <= b { a } else { b }
 }
 
 // Past so many closes that are owed, from `at` on.
@@ -67,13 +52,10 @@ fn past(s: &[u8], at: usize, owing: usize) -> usize
 {
     let mut p = at;
     let mut need: usize = owing;
-    while p < s.len() {
-        if need == 0 {
-            return p;
-        }
+    while need != 0 && p < s.len() {
         let w = fields_of(s, p);
         need = owed_after(s[p], need);
-        p = least(s.len(), p + 1 + w);
+        p = s.len().min(p + 1 + w);
     }
     p
 }
@@ -90,19 +72,43 @@ pub fn term_len(s: &[u8]) -> usize
     requires { TermsAt Mode.result s.now }
     ensures { (m : Mode) (t : TermsAt m s.now) → Passes s.now result (put_terms (tail t.terms) t.rest) }
 {
-    let m = s[0];
-    if m == 1 {
-        return 13;
+    match s[0] {
+        1 => 13,
+        2..=6 => 10 + usize::from(s[9]),
+        15 => 0,
+        m => {
+            let w = fields_of(s, 0);
+            let need = owed_after(m, 1) - 1;
+            past(s, 1 + w, need)
+        }
     }
-    if m < 7 {
-        return 10 + s[9] as usize;
+}
+
+// How many bytes the token at the start of s has: a symbol, a variable, a bracket's beginning or a close.
+#[tactic(auto, using(std::proofs::lemmas::Bool::Decides::nat_tests), unfolding(crate::specs::Parts::token_length))]
+pub fn token_len(s: &[u8]) -> usize
+    requires { (0 < length s.now) × (token_length s.now ≤ length s.now) }
+    ensures { result ≡ token_length s.now }
+{
+    match s[0] {
+        1 => 13,
+        ..=6 => 10 + usize::from(s[9]),
+        7 => 9,
+        _ => 1,
     }
-    if m == 15 {
-        return 0;
+}
+
+// How many closes are to come behind a token with the mark m.
+#[tactic(auto, using(std::proofs::lemmas::Bool::Decides::nat_tests), unfolding(crate::specs::Parts::closes_after))]
+pub fn closes_after(m: u8, closes: usize) -> usize
+    requires { (0 < closes) × (closes < 18446744073709551615) }
+    ensures { result ≡ closes_after m closes }
+{
+    match m {
+        7 => closes + 1,
+        15 => closes - 1,
+        _ => closes,
     }
-    let w = fields_of(s, 0);
-    let need = owed_after(m, 1) - 1;
-    past(s, 1 + w, need)
 }
 
 // The name at the start of s, as a part of s.
@@ -150,34 +156,25 @@ pub fn sentences_start(s: &[u8]) -> usize
     11 + byte_or(s, 10)
 }
 
-#[derive(Clone, Copy)]
-pub enum Found {
-    At(usize),
-    Nothing,
-}
-
 // The sentence after `number` of the functions that stand from `from` to the end of the body b.
-pub fn sentence_at(b: &[u8], from: usize, number: usize) -> Found
+pub fn sentence_at(b: &[u8], from: usize, number: usize) -> Option<usize>
     requires { (from ≤ length b.now) × FunctionsAt (drop from b.now) }
     ensures { (h : FunctionsAt (drop from b.now)) → FoundIn b.now (own_sentences h.functions) number result }
 {
     let mut p = from;
     let mut left = number;
     while p < b.len() {
-        let m = b[p];
-        if m == 18 {
-            p = p + 11 + byte_or(b, p + 10);
-        } else if m == 10 {
-            if left == 0 {
-                return Found::At(p);
+        match b[p] {
+            18 => p = p + 11 + byte_or(b, p + 10),
+            10 if left == 0 => return Some(p),
+            10 => {
+                left -= 1;
+                p = past(b, p + 9, 2);
             }
-            left -= 1;
-            p = past(b, p + 9, 2);
-        } else {
-            p += 1;
+            _ => p += 1,
         }
     }
-    Found::Nothing
+    None
 }
 
 // Where the functions begin in the body of an accepted image.
@@ -186,6 +183,7 @@ pub fn functions_start(img: &[u8]) -> usize
     ensures { (result ≤ body_length img.now) × ((a : Accepted img.now) → drop result (take (body_length img.now) img.now) ≡ put_functions a.program.functions) }
 {
     let n = img.len() - 12;
+    // A cast, here and below, since usize has no From<u32>.
     n - read32(img, n + 4) as usize
 }
 

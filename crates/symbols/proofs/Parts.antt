@@ -4,11 +4,11 @@ use native.Mathlib.Omega.{arith}
 use native.Mathlib.Nat.{le_refl}
 use mathlib.Core.Path.{◌≡◌, refl, sym, ap, ap₂, ◌∙◌}
 use mathlib.Core.Bool.{Bool, true, false, true≢false}
-use mathlib.Core.List.{List, []}
+use mathlib.Core.List.{List}
 use lib.Dec.{eqb, leb, ltb}
 use lib.ListN.{length, take, drop, get_or, length-drop}
 use lib.Seq.{take_all}
-use borrow.Author.Tests.{eqb-true, eq-eqb, ltb-true, leb-true}
+use borrow.Author.Tests.{ltb-true, leb-true}
 use Rattle.program.specs.Syntax.{Span, Symbol, character, identifier, number}
 use Rattle.program.specs.Bytes.{put32, put_span, get32}
 use Rattle.program.specs.Encode.{put_symbol}
@@ -19,8 +19,6 @@ use Rattle.program.proofs.Lengths.{symbol-length}
 use Rattle.patterns.specs.Names.{eq_bytes, same_name}
 use Rattle.patterns.specs.Symbols.{significant, key, eq_symbol, same_symbol}
 use Rattle.symbols.specs.Parts.{SymbolAt}
-use Rattle.patterns.proofs.Tests.{same_test}
-use Rattle.patterns.proofs.Names.{eq_bytes_iff}
 
 -- What the part `&s[i..]` holds.
 pub part_rest : (s : List ℕ) (i : ℕ) → take (length s - i) (drop i s) ≡ drop i s
@@ -65,8 +63,7 @@ pub record CodeAt (s : List ℕ) (x : Symbol) : Type 0 where
   pub code : ℕ
   pub is : x ≡ character code
   pub room : 13 ≤ length s
-  pub bytes : take 4 (drop 9 s) ≡ put32 code []
-  pub small : code < 4294967296
+  pub read : get32 s 9 ≡ code
 
 scalar-small : (c : ℕ) → scalar c ≡ true → c < 4294967296
 unfolding scalar
@@ -77,25 +74,22 @@ scalar-small c e = go (ltb c 55296) refl (leb c 57343) refl e
     go false h true k e = absurd (true≢false (sym e))
     go false h false k e = omega (arith, leb-true c 1114111 e)
 
+code-read : (p : Span) (c : ℕ) (k : List ℕ) → c < 4294967296 → get32 (put_symbol p (character c) k) 9 ≡ c
+unfolding get32 put_symbol put_span put32
+code-read p c k h = get32-put32 c k h
+
 code_of : (s : List ℕ) (p : Span) (x : Symbol) (k : List ℕ) → s ≡ put_symbol p x k → ValidSymbol x → symbol_mark x ≡ 1 → CodeAt s x
 unfolding symbol_mark put_symbol put_span put32
-code_of s p (character c) k e v m = record { code = c; is = refl; room = omega (arith, ap length e); bytes = ap (λ (l : List ℕ). take 4 (drop 9 l)) e; small = scalar-small c v }
+code_of s p (character c) k e v m = record { code = c; is = refl; room = omega (arith, ap length e); read = ap (λ (l : List ℕ). get32 l 9) e ∙ code-read p c k (scalar-small c v) }
 code_of s p (identifier n) k e v m = absurd (omega arith)
 code_of s p (number n) k e v m = absurd (omega arith)
 
 pub code_at : {s : List ℕ} (x : SymbolAt s) → get_or s 0 0 ≡ 1 → CodeAt s x.symbol
 code_at {s} x m = code_of s x.span x.symbol x.rest x.is x.valid (sym (symbol-mark x) ∙ m)
 
-same_code : (c d : ℕ) → c < 4294967296 → d < 4294967296 → put32 c [] ≡ put32 d [] → c ≡ d
-same_code c d h k e = sym (get32-put32 c [] h) ∙ ap (λ (l : List ℕ). get32 l 0) e ∙ get32-put32 d [] k
-
-pub codes_compared : {a b : List ℕ} {x y : Symbol} (c : CodeAt a x) (d : CodeAt b y) → eq_bytes (take 4 (drop 9 a)) (take 4 (drop 9 b)) ≡ same_symbol x y
+pub codes_compared : {a b : List ℕ} {x y : Symbol} (c : CodeAt a x) (d : CodeAt b y) → eqb (get32 a 9) (get32 b 9) ≡ same_symbol x y
 unfolding same_symbol key eq_symbol
-codes_compared c d =
-    rw (c.bytes, d.bytes, c.is, d.is)
-    (same_test (eq_bytes (put32 c.code []) (put32 d.code [])) (eqb c.code d.code)
-    (λ e. eq-eqb c.code d.code (same_code c.code d.code c.small d.small ((eq_bytes_iff (put32 c.code []) (put32 d.code [])).0 e)))
-    (λ e. (eq_bytes_iff (put32 c.code []) (put32 d.code [])).1 (ap (λ (n : ℕ). put32 n []) (eqb-true c.code d.code e))))
+codes_compared c d = rw (c.read, d.read, c.is, d.is)
 
 -- An identifier or a number: a name from the tenth byte on.
 pub record IdentifierAt (s : List ℕ) (x : Symbol) : Type 0 where

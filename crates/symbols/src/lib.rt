@@ -6,35 +6,16 @@ ghost use Rattle.patterns.specs.Names.{lower, eq_bytes, same_name, compare_names
 ghost use Rattle.patterns.specs.Symbols.{significant, same_symbol};
 ghost use Rattle.symbols.specs.Parts.{SymbolAt};
 
+use image::number::read32;
 use image::part::name_part;
 use patterns::NameComparison;
 
-// An ASCII capital's small letter.
+// An ASCII capital's small letter, in the words of the definition of names.
+#[tactic(auto, using(crate::proofs::Compared::lowered))]
 pub fn small(c: u8) -> u8
     ensures { result ≡ lower c }
 {
-    if 65 <= c {
-        if c <= 90 {
-            return c + 32;
-        }
-    }
-    c
-}
-
-pub fn same_bytes(a: &[u8], b: &[u8]) -> bool
-    ensures { result ≡ eq_bytes a.now b.now }
-{
-    if a.len() != b.len() {
-        return false;
-    }
-    let mut i = 0;
-    while i < a.len() {
-        if a[i] != b[i] {
-            return false;
-        }
-        i += 1;
-    }
-    true
+    c.to_ascii_lowercase()
 }
 
 // Two names without regard to ASCII case, up to the first pair of bytes that differs, and how many pairs were compared.
@@ -47,19 +28,19 @@ pub fn compare_names(a: &[u8], b: &[u8]) -> NameComparison
             compared: 0,
         };
     }
-    let mut i = 0;
-    while i < a.len() {
-        if small(a[i]) != small(b[i]) {
-            return NameComparison {
-                equal: false,
-                compared: i + 1,
-            };
-        }
-        i += 1;
-    }
-    NameComparison {
-        equal: true,
-        compared: i,
+    match a
+        .iter()
+        .zip(b)
+        .position(|(x, y)| !x.eq_ignore_ascii_case(y))
+    {
+        Some(i) => NameComparison {
+            equal: false,
+            compared: i + 1,
+        },
+        None => NameComparison {
+            equal: true,
+            compared: a.len(),
+        },
     }
 }
 
@@ -67,31 +48,21 @@ pub fn compare_names(a: &[u8], b: &[u8]) -> NameComparison
 pub fn same_name(a: &[u8], b: &[u8]) -> bool
     ensures { result ≡ same_name a.now b.now }
 {
-    let c = compare_names(a, b);
-    c.equal
+    compare_names(a, b).equal
 }
 
 // How many zeros the digits begin with.
 fn leading_zeros(n: &[u8]) -> usize
     ensures { (result ≤ length n.now) × (drop result n.now ≡ significant n.now) }
 {
-    let mut i = 0;
-    while i < n.len() {
-        if n[i] != 48 {
-            return i;
-        }
-        i += 1;
-    }
-    i
+    n.iter().take_while(|d| **d == b'0').count()
 }
 
 // Whether the digits of two numbers say the same whole number.
 fn same_number(a: &[u8], b: &[u8]) -> bool
     ensures { result ≡ eq_bytes (significant a.now) (significant b.now) }
 {
-    let i = leading_zeros(a);
-    let j = leading_zeros(b);
-    same_bytes(&a[i..], &b[j..])
+    a[leading_zeros(a)..] == b[leading_zeros(b)..]
 }
 
 // Whether two symbols, each at the start of its part of an image, are equal.
@@ -103,13 +74,9 @@ pub fn same_symbol(a: &[u8], b: &[u8]) -> bool
     if m != b[0] {
         return false;
     }
-    if m == 1 {
-        return same_bytes(&a[9..13], &b[9..13]);
+    match m {
+        1 => read32(a, 9) == read32(b, 9),
+        2 => same_name(name_part(&a[9..]), name_part(&b[9..])),
+        _ => same_number(name_part(&a[9..]), name_part(&b[9..])),
     }
-    let x = name_part(&a[9..]);
-    let y = name_part(&b[9..]);
-    if m == 2 {
-        return same_name(x, y);
-    }
-    same_number(x, y)
 }

@@ -6,8 +6,8 @@ use Rattle.image.specs.Parts.{TermsAt}
 use Rattle.compare.proofs.Cursor.{Comparing}
 use Rattle.compare.proofs.same_text.Given as goal
 
-abbrev pub invariant-loop-i : goal.invariant-loop-i
-invariant-loop-i l = (t : TermsAt Mode.pattern l.a) (u : TermsAt Mode.pattern l.b) → Comparing t u l.m l.n l.i l.k l.j l.l
+abbrev pub invariant-loop-one : goal.invariant-loop-one
+invariant-loop-one l = (t : TermsAt Mode.pattern l.a) (u : TermsAt Mode.pattern l.b) → Comparing t u l.m l.n l.one.token l.one.nth l.two.token l.two.nth
 
-abbrev pub decreases-loop-i : goal.decreases-loop-i
-decreases-loop-i l = 2 * (length l.a - l.i) - l.k
+abbrev pub decreases-loop-one : goal.decreases-loop-one
+decreases-loop-one l = 2 * (length l.a - l.one.token) - l.one.nth

@@ -26,48 +26,48 @@ slice_bounds-v-end c = omega arith
 pub bounds-u-0 : goal.bounds-u-0
 bounds-u-0 c = pattern-room (one_part c.args.a.now c.args.b.now c.args.i c.args.j c.requires)
 
-pub returns-then-k-lt4 : goal.returns-then-k-lt4
-returns-then-k-lt4 c = λ w. sym (no_variables c.args.a.now c.args.b.now c.args.i c.args.j w (λ l u. omega (arith, l, c.if-k-lt4.true)))
+pub returns-in_default : goal.returns-in_default
+returns-in_default c = λ w. sym (no_variables c.args.a.now c.args.b.now c.args.i c.args.j w (λ l u. omega arith))
 
-pub returns-then-k-gt6 : goal.returns-then-k-gt6
-returns-then-k-gt6 c = λ w. sym (no_variables c.args.a.now c.args.b.now c.args.i c.args.j w (λ l u. omega (arith, u, c.if-k-gt6.true)))
+pub returns-in_default-2 : goal.returns-in_default-2
+returns-in_default-2 c = λ w. sym (no_variables c.args.a.now c.args.b.now c.args.i c.args.j w (λ l u. omega arith))
 
 pub slice_bounds-name_part-count : goal.slice_bounds-name_part-count
 slice_bounds-name_part-count c =
     let w = c.requires in
     let a = one_part c.args.a.now c.args.b.now c.args.i c.args.j w in
-    omega (arith, variable-room a (omega (arith, c.if-k-lt4.false)) (omega (arith, c.if-k-gt6.false)))
+    omega (arith, variable-room a (omega arith) (omega arith))
 
 pub slice_bounds-name_part-start : goal.slice_bounds-name_part-start
 slice_bounds-name_part-start c =
     let w = c.requires in
     let a = one_part c.args.a.now c.args.b.now c.args.i c.args.j w in
-    omega (arith, variable-room a (omega (arith, c.if-k-lt4.false)) (omega (arith, c.if-k-gt6.false)))
+    omega (arith, variable-room a (omega arith) (omega arith))
 
 pub name_part-requires : goal.name_part-requires
-name_part-requires c = variable-name (one_part c.args.a.now c.args.b.now c.args.i c.args.j c.requires) (omega (arith, c.if-k-lt4.false)) (omega (arith, c.if-k-gt6.false))
+name_part-requires c = variable-name (one_part c.args.a.now c.args.b.now c.args.i c.args.j c.requires) (omega arith) (omega arith)
 
-pub slice_bounds-name_part-count-2 : goal.slice_bounds-name_part-count-2
-slice_bounds-name_part-count-2 c =
+pub slice_bounds-name_part-count-in-4-to-6 : goal.slice_bounds-name_part-count-in-4-to-6
+slice_bounds-name_part-count-in-4-to-6 c =
     let w = c.requires in
     let b = two_part c.args.a.now c.args.b.now c.args.i c.args.j w in
-    omega (arith, variable-room b (second-low c.args.a.now c.args.b.now c.args.i c.args.j c.requires (omega (arith, c.if-k-lt4.false)) (omega (arith, c.if-k-gt6.false))) (second-high c.args.a.now c.args.b.now c.args.i c.args.j c.requires (omega (arith, c.if-k-lt4.false)) (omega (arith, c.if-k-gt6.false))))
+    omega (arith, variable-room b (second-low c.args.a.now c.args.b.now c.args.i c.args.j c.requires (omega arith) (omega arith)) (second-high c.args.a.now c.args.b.now c.args.i c.args.j c.requires (omega arith) (omega arith)))
 
-pub slice_bounds-name_part-start-2 : goal.slice_bounds-name_part-start-2
-slice_bounds-name_part-start-2 c =
+pub slice_bounds-name_part-start-in-4-to-6 : goal.slice_bounds-name_part-start-in-4-to-6
+slice_bounds-name_part-start-in-4-to-6 c =
     let w = c.requires in
     let b = two_part c.args.a.now c.args.b.now c.args.i c.args.j w in
-    omega (arith, variable-room b (second-low c.args.a.now c.args.b.now c.args.i c.args.j c.requires (omega (arith, c.if-k-lt4.false)) (omega (arith, c.if-k-gt6.false))) (second-high c.args.a.now c.args.b.now c.args.i c.args.j c.requires (omega (arith, c.if-k-lt4.false)) (omega (arith, c.if-k-gt6.false))))
+    omega (arith, variable-room b (second-low c.args.a.now c.args.b.now c.args.i c.args.j c.requires (omega arith) (omega arith)) (second-high c.args.a.now c.args.b.now c.args.i c.args.j c.requires (omega arith) (omega arith)))
 
-pub name_part-requires-2 : goal.name_part-requires-2
-name_part-requires-2 c = variable-name (two_part c.args.a.now c.args.b.now c.args.i c.args.j c.requires) (second-low c.args.a.now c.args.b.now c.args.i c.args.j c.requires (omega (arith, c.if-k-lt4.false)) (omega (arith, c.if-k-gt6.false))) (second-high c.args.a.now c.args.b.now c.args.i c.args.j c.requires (omega (arith, c.if-k-lt4.false)) (omega (arith, c.if-k-gt6.false)))
+pub name_part-requires-in-4-to-6 : goal.name_part-requires-in-4-to-6
+name_part-requires-in-4-to-6 c = variable-name (two_part c.args.a.now c.args.b.now c.args.i c.args.j c.requires) (second-low c.args.a.now c.args.b.now c.args.i c.args.j c.requires (omega arith) (omega arith)) (second-high c.args.a.now c.args.b.now c.args.i c.args.j c.requires (omega arith) (omega arith))
 
 pub first_seen_alike-requires : goal.first_seen_alike-requires
 first_seen_alike-requires c = (omega (arith, walked-within c.args.a.now c.args.b.now c.args.i c.args.j c.requires), omega (arith, walked-within c.args.a.now c.args.b.now c.args.i c.args.j c.requires), c.requires.walked)
 
-pub returns : goal.returns
-returns c = λ w.
+pub returns-in-4-to-6 : goal.returns-in-4-to-6
+returns-in-4-to-6 c = λ w.
     c.first_seen_alike.ensures w.walked
-    ∙ two_variables c.args.a.now c.args.b.now c.args.i c.args.j w (omega (arith, c.if-k-lt4.false)) (omega (arith, c.if-k-gt6.false)) c.name_part.result.now c.name_part-2.result.now
-    (c.name_part.ensures (variable-name (one_part c.args.a.now c.args.b.now c.args.i c.args.j w) (omega (arith, c.if-k-lt4.false)) (omega (arith, c.if-k-gt6.false))))
-    (c.name_part-2.ensures (variable-name (two_part c.args.a.now c.args.b.now c.args.i c.args.j w) (second-low c.args.a.now c.args.b.now c.args.i c.args.j w (omega (arith, c.if-k-lt4.false)) (omega (arith, c.if-k-gt6.false))) (second-high c.args.a.now c.args.b.now c.args.i c.args.j w (omega (arith, c.if-k-lt4.false)) (omega (arith, c.if-k-gt6.false)))))
+    ∙ two_variables c.args.a.now c.args.b.now c.args.i c.args.j w (omega arith) (omega arith) c.name_part.result.now c.name_part-in-4-to-6.result.now
+    (c.name_part.ensures (variable-name (one_part c.args.a.now c.args.b.now c.args.i c.args.j w) (omega arith) (omega arith)))
+    (c.name_part-in-4-to-6.ensures (variable-name (two_part c.args.a.now c.args.b.now c.args.i c.args.j w) (second-low c.args.a.now c.args.b.now c.args.i c.args.j w (omega arith) (omega arith)) (second-high c.args.a.now c.args.b.now c.args.i c.args.j w (omega arith) (omega arith))))

@@ -1,46 +1,20 @@
-use native.Mathlib.Omega.{arith}
-use Rattle.patterns.proofs.Equal.{compared_none, lengths_differ, pair-next, pair_differs, pairs-all}
+-- `symbols::compare_names` meets its contract: the pairs before the first that differ are equal.
+use Rattle.std.proofs.Common.{rules, tests}
+use Rattle.std.proofs.lemmas.Iterator.{YieldsList-from_slice, YieldsList-from_zip}
+use Rattle.std.proofs.lemmas.Iterator.Search.{position_from_yields_List}
+use Rattle.patterns.proofs.Equal.{lengths_differ}
+use Rattle.symbols.proofs.Compared.{differ, compared_so}
 use Rattle.symbols.proofs.compare_names.Goals as goal
 
 pub returns-then-a-b : goal.returns-then-a-b
 returns-then-a-b c = let s = c.args in lengths_differ s.a.now s.b.now c.if-a-b.true
 
-pub loop-i-init : goal.loop-i-init
-loop-i-init c = compared_none _ _ c.if-a-b.false
-
-pub bounds-a-i : goal.bounds-a-i
-bounds-a-i c = omega arith
-
-pub bounds-b-i : goal.bounds-b-i
-bounds-b-i c = omega arith
-
-pub overflow_add-result : goal.overflow_add-result
-overflow_add-result c = omega arith
-
-pub returns-then-small : goal.returns-then-small
-returns-then-small c =
-    let l = c.loop-i in
+pub returns-in-Some : goal.returns-in-Some
+returns-in-Some c =
     let s = c.args in
-    let x = c.small in
-    let y = c.small-in-loop-i in
-    pair_differs s.a.now s.b.now l.i x.result y.result l.invariant x.ensures y.ensures (omega arith) (omega (arith, l.invariant.lengths)) c.if-small.true
+    rw c.in-Some.is at (compared_so s.a.now s.b.now c.position.result c.if-a-b.false (position_from_yields_List {s = c.zip.result} differ c.position.new.self _ c.position.result c.position.ensures.ran (YieldsList-from_zip {s = c.zip.result} (YieldsList-from_slice s.a.now cc) (YieldsList-from_slice s.b.now cc)) (λ x b q k. search (rules, tests))))
 
-pub overflow_add-i : goal.overflow_add-i
-overflow_add-i c = omega arith
-
-pub loop-i-smaller : goal.loop-i-smaller
-loop-i-smaller c = omega arith
-
-pub loop-i-preserved : goal.loop-i-preserved
-loop-i-preserved c =
-    let l = c.loop-i in
+pub returns-in-None : goal.returns-in-None
+returns-in-None c =
     let s = c.args in
-    let x = c.small in
-    let y = c.small-in-loop-i in
-    pair-next s.a.now s.b.now l.i x.result y.result l.invariant x.ensures y.ensures (omega arith) (omega (arith, l.invariant.lengths)) c.if-small.false
-
-pub returns : goal.returns
-returns c =
-    let l = c.loop-i in
-    let s = c.args in
-    pairs-all s.a.now s.b.now l.i l.invariant (omega arith)
+    rw c.in-None.is at (compared_so s.a.now s.b.now c.position.result c.if-a-b.false (position_from_yields_List {s = c.zip.result} differ c.position.new.self _ c.position.result c.position.ensures.ran (YieldsList-from_zip {s = c.zip.result} (YieldsList-from_slice s.a.now cc) (YieldsList-from_slice s.b.now cc)) (λ x b q k. search (rules, tests))))

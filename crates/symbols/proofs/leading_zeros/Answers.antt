@@ -1,34 +1,18 @@
-use native.Mathlib.Omega.{arith}
-use mathlib.Core.Path.{refl, sym, ◌∙◌}
-use Rattle.patterns.proofs.Symbols.{significant_zero, significant-other, significant-end}
+-- `symbols::leading_zeros` meets its contract.
+use mathlib.Core.Path.{◌≡◌, ◌∙◌}
+use Rattle.std.proofs.Common.{rules, nat_eq, tests}
+use Rattle.std.specs.List.{prefix_len}
+use Rattle.std.proofs.lemmas.Iterator.{YieldsList-from_slice}
+use Rattle.std.proofs.lemmas.Iterator.Consumers.{count_from_yields_List}
+use Rattle.std.proofs.lemmas.Iterator.Search.{YieldsList-from_take_while}
+use Rattle.std.proofs.lemmas.List.Folds.{length-prefix_len}
+use Rattle.std.proofs.lemmas.List.Sums.{prefix_len-le-length}
+use Rattle.symbols.proofs.Compared.{zeros-dropped}
 use Rattle.symbols.proofs.leading_zeros.Goals as goal
-
-pub loop-i-init : goal.loop-i-init
-loop-i-init c = (omega arith, refl)
-
-pub bounds-n-i : goal.bounds-n-i
-bounds-n-i c = omega arith
-
-pub returns-then-n-i-ne48 : goal.returns-then-n-i-ne48
-returns-then-n-i-ne48 c =
-    let l = c.loop-i in
-    let s = c.args in
-    (omega arith, sym (l.invariant.1 ∙ significant-other s.n.now l.i (omega arith) c.if-n-i-ne48.true))
-
-pub overflow_add-i : goal.overflow_add-i
-overflow_add-i c = omega arith
-
-pub loop-i-smaller : goal.loop-i-smaller
-loop-i-smaller c = omega arith
-
-pub loop-i-preserved : goal.loop-i-preserved
-loop-i-preserved c =
-    let l = c.loop-i in
-    let s = c.args in
-    (omega arith, l.invariant.1 ∙ significant_zero s.n.now l.i (omega arith) c.if-n-i-ne48.false)
 
 pub returns : goal.returns
 returns c =
-    let l = c.loop-i in
-    let s = c.args in
-    (omega arith, sym (l.invariant.1 ∙ significant-end s.n.now l.i (omega arith)))
+    let n = c.args.n.now in
+    let e : c.count.result ≡ prefix_len (λ d. nat_eq d 48) n =
+    count_from_yields_List c.take_while.result _ c.count.ensures.ran (YieldsList-from_take_while _ (λ d. nat_eq d 48) (YieldsList-from_slice n cc) c.take_while.ensures.closure c.take_while.ensures.done (λ x b q k. search (rules, tests))) ∙ length-prefix_len (λ d. nat_eq d 48) n in
+    rw e (prefix_len-le-length (λ d. nat_eq d 48) n, zeros-dropped n)

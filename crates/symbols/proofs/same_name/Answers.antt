@@ -6,4 +6,4 @@ use Rattle.symbols.proofs.same_name.Goals as goal
 
 pub returns : goal.returns
 unfolding compare_names
-returns c = ap (λ (x : NameComparison). x.equal) c.compare_names-c.ensures
+returns c = ap (λ (x : NameComparison). x.equal) c.compare_names.ensures

@@ -1,6 +1,5 @@
--- `image::number::read16` meets its contract. Assumes nothing.
+use Rattle.std.proofs.Common.{arith}
 use Rattle.program.specs.Bytes.{get16}
-use native.Mathlib.Omega.{arith}
 use Rattle.image.proofs.number.read16.Goals as goal
 
 pub returns : goal.returns

@@ -1,6 +1,5 @@
--- `image::number::read32` meets its contract. Assumes nothing.
+use Rattle.std.proofs.Common.{arith}
 use Rattle.program.specs.Bytes.{get32}
-use native.Mathlib.Omega.{arith}
 use Rattle.image.proofs.number.read32.Goals as goal
 
 pub returns : goal.returns

@@ -1,8 +1,8 @@
--- Closes to come.
+-- Closes to come behind a token, by its mark.
 use Prim.Native.Nat.{ℕ, ◌+◌, ◌-◌}
 use mathlib.Core.Path.{◌≡◌}
 use borrow.Author.Tests.{ne_eqb}
-use Rattle.configuration.specs.Lockstep.{closes_after}
+use Rattle.image.specs.Parts.{closes_after}
 
 pub closes_open : (m n : ℕ) → m ≡ 7 → n + 1 ≡ closes_after m n
 unfolding closes_after

@@ -1,5 +1,4 @@
 pub mod Answers
-pub mod Helpers
 pub mod Walk
 pub mod Loop
 pub mod Refusals

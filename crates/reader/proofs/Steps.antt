@@ -7,14 +7,17 @@ use mathlib.Core.Bool.{Bool, true, false}
 use mathlib.Core.List.{List, [], ◌∷◌}
 use lib.ListN.{length, get_or, drop, length-drop}
 use lib.Dec.{ltb, leb}
-use borrow.Author.Tests.{lt-ltb, le-ltb, le-leb, ltb-true, ltb-false, leb-true, ne_eqb}
+use borrow.Author.Tests.{lt-ltb, le-ltb, le-leb, ltb-true, ltb-false, leb-true}
+use Rattle.std.specs.Prelude.{Result, Ok, Err}
+use Rattle.program.specs.declared.Refusal.{Refusal}
 use Rattle.program.specs.Syntax.{Span}
 use Rattle.program.specs.Bytes.{get32, get_span}
 use Rattle.program.specs.Limits.{pick, allowed}
 use Rattle.program.specs.Automaton.{Stack, Values, Turn, spanned, wrong, Scan, scan, scanned, named, turn}
-use Rattle.reader.specs.Steps.{refusal, refusal_of, span_refusal, step_of, span_step, name_refusal, name_step, push, frame_on, frames, Refuses, Goes, DoesAt, Does}
+use Rattle.reader.specs.Steps.{refusal, refusal_of, span_refusal, step_of, span_step, name_refusal, name_step, push, frame_on, pushed, Refuses, Goes, DoesAt, Does}
 use Rattle.reader.specs.declared.turns.Frame.{Frame}
-use Rattle.reader.specs.declared.turns.Step.{Step}
+use Rattle.reader.specs.declared.turns.Frames.{Frames}
+use Rattle.reader.specs.declared.turns.Push.{Push}
 use Rattle.program.proofs.Numbers.{get32-drop}
 use Rattle.program.proofs.Sound.{scan_good}
 
@@ -31,9 +34,9 @@ rest-first b p = sym (get32-drop b (suc p) 0) ∙ ap (get32 b) (omega arith)
 rest-second : (b : List ℕ) (p : ℕ) → get32 (rest b p) 4 ≡ get32 b (p + 1 + 4)
 rest-second b p = sym (get32-drop b (suc p) 4) ∙ ap (get32 b) (omega arith)
 
-module _ (b : List ℕ) (p n : ℕ) (y x : Stack) (e0 e1 e2 e3 : Frame) (hp : p < length b) (hn : n ≤ 4)
-    (h : Span → Values (frames n e0 e1 e2 e3 x) → Values y)
-    (turns : turn y (get_or b p 0) (rest b p) ≡ spanned (rest b p) (λ q. Turn.go (frames n e0 e1 e2 e3 x) 8 (h q))) where
+module _ (b : List ℕ) (p : ℕ) (y x : Stack) (fs : Frames) (hp : p < length b)
+    (h : Span → Values (pushed fs x) → Values y)
+    (turns : turn y (get_or b p 0) (rest b p) ≡ spanned (rest b p) (λ q. Turn.go (pushed fs x) 8 (h q))) where
   span_cut : length b < p + 1 + 8 → Refuses b p y (refusal 5 (length b))
   unfolding spanned
   span_cut l =
@@ -51,99 +54,95 @@ module _ (b : List ℕ) (p n : ℕ) (y x : Stack) (e0 e1 e2 e3 : Frame) (hp : p 
         is = turns ∙ rw (le-ltb (length (rest b p)) 8 (omega (arith, rest-length b p)), rest-first b p, rest-second b p, lt-ltb _ _ w, rest-length b p);
       }
 
-  span_fine : p + 1 + 8 ≤ length b → get32 b (p + 1) ≤ get32 b (p + 1 + 4) → Goes b p y x (push (p + 9) n e0 e1 e2 e3)
+  span_fine : p + 1 + 8 ≤ length b → get32 b (p + 1) ≤ get32 b (p + 1 + 4) → Goes b p y x (push (p + 9) fs)
   unfolding spanned
   span_fine l w =
       let z : p + 9 - suc p ≡ 8 = omega arith in
       record {
         ahead = omega arith;
         within = omega arith;
-        few = hn;
         make = h (get_span (rest b p) 0);
         is = turns ∙ rw (le-ltb (length (rest b p)) 8 (omega (arith, rest-length b p)), rest-first b p, rest-second b p, le-ltb _ _ w, z);
       }
 
-  pub span-at : {r : Step} → r ≡ span_step b p n e0 e1 e2 e3 → DoesAt b p y x r
+  pub span-at : {r : Result Push Refusal} → r ≡ span_step b p fs → DoesAt b p y x r
   unfolding span_step span_refusal step_of
   span-at {r} q = subst (DoesAt b p y x) (sym q) (by (ltb (length b) (p + 1 + 8)) (ltb (get32 b (p + 1 + 4)) (get32 b (p + 1))) refl refl)
     where
       by : (s t : Bool) → ltb (length b) (p + 1 + 8) ≡ s → ltb (get32 b (p + 1 + 4)) (get32 b (p + 1)) ≡ t
-          → DoesAt b p y x (step_of (pick s (refusal 5 (length b)) (pick t (refusal 8 (p + 1)) (refusal 0 0))) (push (p + 9) n e0 e1 e2 e3))
+          → DoesAt b p y x (step_of (pick s (Err (refusal 5 (length b))) (pick t (Err (refusal 8 (p + 1))) (Ok (tt {0})))) (push (p + 9) fs))
       by true t u v = span_cut (ltb-true _ _ u)
       by false true u v = span-wrong (ltb-false _ _ u) (ltb-true _ _ v)
       by false false u v = span_fine (ltb-false _ _ u) (ltb-false _ _ v)
 
-pub bad_at : (b : List ℕ) (p : ℕ) (y x : Stack) (n : ℕ) → p < length b → turn y (get_or b p 0) (rest b p) ≡ wrong n (rest b p) → {r : Step} → r ≡ Step.Refuse (refusal n p) → DoesAt b p y x r
+pub bad_at : (b : List ℕ) (p : ℕ) (y x : Stack) (n : ℕ) → p < length b → turn y (get_or b p 0) (rest b p) ≡ wrong n (rest b p) → {r : Result Push Refusal} → r ≡ Err (refusal n p) → DoesAt b p y x r
 unfolding wrong
 bad_at b p y x n hp turns {r} q =
     subst (DoesAt b p y x) (sym q)
     (record { within = omega arith; is = turns ∙ ap (Turn.refuse n) (omega (arith, rest-length b p)) })
 
 -- The same with a frame on top.
-pub span_does : (b : List ℕ) (p n : ℕ) (e e0 e1 e2 e3 : Frame) → p < length b → n ≤ 4 → (h : (x : Stack) → Span → Values (frames n e0 e1 e2 e3 x) → Values (frame_on e x))
-    → ((x : Stack) → turn (frame_on e x) (get_or b p 0) (rest b p) ≡ spanned (rest b p) (λ q. Turn.go (frames n e0 e1 e2 e3 x) 8 (h x q)))
-    → {r : Step} → r ≡ span_step b p n e0 e1 e2 e3 → Does b p e r
-span_does b p n e e0 e1 e2 e3 hp hn h turns q = λ x. span-at b p n (frame_on e x) x e0 e1 e2 e3 hp hn (h x) (turns x) q
+pub span_does : (b : List ℕ) (p : ℕ) (e : Frame) (fs : Frames) → p < length b → (h : (x : Stack) → Span → Values (pushed fs x) → Values (frame_on e x))
+    → ((x : Stack) → turn (frame_on e x) (get_or b p 0) (rest b p) ≡ spanned (rest b p) (λ q. Turn.go (pushed fs x) 8 (h x q)))
+    → {r : Result Push Refusal} → r ≡ span_step b p fs → Does b p e r
+span_does b p e fs hp h turns q = λ x. span-at b p (frame_on e x) x fs hp (h x) (turns x) q
 
-pub bad_does : (b : List ℕ) (p : ℕ) (e : Frame) (n : ℕ) → p < length b → ((x : Stack) → turn (frame_on e x) (get_or b p 0) (rest b p) ≡ wrong n (rest b p)) → {r : Step} → r ≡ Step.Refuse (refusal n p) → Does b p e r
+pub bad_does : (b : List ℕ) (p : ℕ) (e : Frame) (n : ℕ) → p < length b → ((x : Stack) → turn (frame_on e x) (get_or b p 0) (rest b p) ≡ wrong n (rest b p)) → {r : Result Push Refusal} → r ≡ Err (refusal n p) → Does b p e r
 bad_does b p e n hp turns q = λ x. bad_at b p (frame_on e x) x n hp (turns x) q
 
-pub go_does : (b : List ℕ) (p n : ℕ) (e e0 e1 e2 e3 : Frame) → p < length b → n ≤ 4
-    → ((x : Stack) → (k : Values (frames n e0 e1 e2 e3 x) → Values (frame_on e x)) × (turn (frame_on e x) (get_or b p 0) (rest b p) ≡ Turn.go (frames n e0 e1 e2 e3 x) 0 k))
-    → {r : Step} → r ≡ Step.Go (push (p + 1) n e0 e1 e2 e3) → Does b p e r
-go_does b p n e e0 e1 e2 e3 hp hn turns {r} q = λ x.
+pub go_does : (b : List ℕ) (p : ℕ) (e : Frame) (fs : Frames) → p < length b
+    → ((x : Stack) → (k : Values (pushed fs x) → Values (frame_on e x)) × (turn (frame_on e x) (get_or b p 0) (rest b p) ≡ Turn.go (pushed fs x) 0 k))
+    → {r : Result Push Refusal} → r ≡ Ok (push (p + 1) fs) → Does b p e r
+go_does b p e fs hp turns {r} q = λ x.
     let z : p + 1 - suc p ≡ 0 = omega arith in
     let t = turns x in
     subst (DoesAt b p (frame_on e x) x) (sym q)
     (record {
       ahead = omega arith;
       within = omega arith;
-      few = hn;
       make = t.0;
-      is = t.1 ∙ ap (λ (w : ℕ). Turn.go (frames n e0 e1 e2 e3 x) w t.0) (sym z);
+      is = t.1 ∙ ap (λ (w : ℕ). Turn.go (pushed fs x) w t.0) (sym z);
     })
 
-scan_bad : (g : Bool) (n : ℕ) (s : List ℕ) (m l : ℕ) → scan g n s ≡ Scan.refuse m l → (0 < m) × (l ≤ length s)
+scan_bad : (g : Bool) (n : ℕ) (s : List ℕ) (m l : ℕ) → scan g n s ≡ Scan.refuse m l → l ≤ length s
 unfolding scan
-scan_bad g zero s m l e = absurd (let z : ◌≡◌ {A = ℕ} 0 1 = cc in omega arith)
-scan_bad g (suc n) [] m l e = let u : 5 ≡ m = cc in let v : 0 ≡ l = cc in (omega arith, omega arith)
+scan_bad g zero s m l e = cc
+scan_bad g (suc n) [] m l e = let v : 0 ≡ l = cc in omega arith
 scan_bad g (suc n) (b ∷ s) m l e = by (scan_bad g n s m l) (allowed g b) e
   where
-    by : (scan g n s ≡ Scan.refuse m l → (0 < m) × (l ≤ length s)) → (t : Bool) → pick t (scan g n s) (Scan.refuse 6 (suc (length s))) ≡ Scan.refuse m l → (0 < m) × (l ≤ suc (length s))
-    by ih true q = let r = ih q in (omega arith, omega arith)
-    by ih false q = let u : 6 ≡ m = cc in let v : suc (length s) ≡ l = cc in (omega arith, omega arith)
+    by : (scan g n s ≡ Scan.refuse m l → l ≤ length s) → (t : Bool) → pick t (scan g n s) (Scan.refuse 6 (suc (length s))) ≡ Scan.refuse m l → l ≤ suc (length s)
+    by ih true q = let r = ih q in omega arith
+    by ih false q = let v : suc (length s) ≡ l = cc in omega arith
 
-module _ (b : List ℕ) (p : ℕ) (g : Bool) (n : ℕ) (e f : Frame) (hp : p < length b) (hn : n ≤ 4)
-    (h : (x : Stack) → Values (frames n f f f f x) → Values (frame_on e x))
-    (turns : (x : Stack) → turn (frame_on e x) (get_or b p 0) (rest b p) ≡ named g (get_or b p 0) (rest b p) (Turn.go (frames n f f f f x) (get_or b p 0) (h x))) where
-  name-wrong : ((x : Stack) → turn (frame_on e x) (get_or b p 0) (rest b p) ≡ wrong 6 (rest b p)) → Does b p e (Step.Refuse (refusal 6 p))
+module _ (b : List ℕ) (p : ℕ) (g : Bool) (e : Frame) (fs : Frames) (hp : p < length b)
+    (h : (x : Stack) → Values (pushed fs x) → Values (frame_on e x))
+    (turns : (x : Stack) → turn (frame_on e x) (get_or b p 0) (rest b p) ≡ named g (get_or b p 0) (rest b p) (Turn.go (pushed fs x) (get_or b p 0) (h x))) where
+  name-wrong : ((x : Stack) → turn (frame_on e x) (get_or b p 0) (rest b p) ≡ wrong 6 (rest b p)) → Does b p e (Err (refusal 6 p))
   name-wrong t = bad_does b p e 6 hp t refl
 
   name-scan : (s : Scan) → scan g (get_or b p 0) (rest b p) ≡ s → 0 < get_or b p 0 → get_or b p 0 ≤ 63
-      → Does b p e (step_of (refusal_of (length b) s) (push (p + 1 + get_or b p 0) n f f f f))
+      → Does b p e (step_of (refusal_of (length b) s) (push (p + 1 + get_or b p 0) fs))
   unfolding step_of refusal_of named scanned
   name-scan (Scan.refuse m l) q h0 h63 = λ x.
       let w = scan_bad g (get_or b p 0) (rest b p) m l q in
       let z : length b - (length b - l) ≡ l = omega (arith, rest-length b p) in
-      rw (ne_eqb m 0 (omega arith))
-      (record { within = omega arith; is = turns x ∙ rw (lt-ltb 0 (get_or b p 0) h0, le-leb (get_or b p 0) 63 h63, q, z) })
+      record { within = omega arith; is = turns x ∙ rw (lt-ltb 0 (get_or b p 0) h0, le-leb (get_or b p 0) 63 h63, q, z) }
   name-scan Scan.good q h0 h63 = λ x.
       let w = scan_good g (get_or b p 0) (rest b p) q in
       let z : p + 1 + get_or b p 0 - suc p ≡ get_or b p 0 = omega arith in
       record {
         ahead = omega arith;
         within = omega (arith, rest-length b p);
-        few = hn;
         make = h x;
         is = turns x ∙ rw (lt-ltb 0 (get_or b p 0) h0, le-leb (get_or b p 0) 63 h63, q, z);
       }
 
-  pub name_does : {r : Step} → r ≡ name_step b p g n f → Does b p e r
+  pub name_does : {r : Result Push Refusal} → r ≡ name_step b p g fs → Does b p e r
   unfolding name_step name_refusal step_of named
   name_does {r} q = subst (Does b p e) (sym q) (rw (add-one p) (by (ltb 0 (get_or b p 0)) (leb (get_or b p 0) 63) refl refl))
     where
       by : (s t : Bool) → ltb 0 (get_or b p 0) ≡ s → leb (get_or b p 0) 63 ≡ t
-          → Does b p e (step_of (pick s (pick t (refusal_of (length b) (scan g (get_or b p 0) (drop (suc p) b))) (refusal 6 p)) (refusal 6 p)) (push (suc p + get_or b p 0) n f f f f))
+          → Does b p e (step_of (pick s (pick t (refusal_of (length b) (scan g (get_or b p 0) (drop (suc p) b))) (Err (refusal 6 p))) (Err (refusal 6 p))) (push (suc p + get_or b p 0) fs))
       by true true u v = rw (add-one p) at (name-scan (scan g (get_or b p 0) (rest b p)) refl (ltb-true _ _ u) (leb-true _ _ v))
       by true false u v = name-wrong (λ x. turns x ∙ rw (u, v))
       by false t u v = name-wrong (λ x. turns x ∙ rw u)

@@ -2,56 +2,45 @@
 ghost use Rattle.std.specs.Prelude.{◌≡◌, ℕ, ◌+◌, ◌-◌, ◌<◌, ◌≤◌, length, true};
 ghost use Rattle.program.specs.Limits.{Mode};
 ghost use Rattle.program.specs.Automaton.{Stack};
-ghost use Rattle.reader.specs.Steps.{TermsKind};
-ghost use Rattle.reader.specs.Tally.{unpacked, Alike, Ends, Stops};
+ghost use Rattle.reader.specs.Steps.{TermsAt};
+ghost use Rattle.reader.specs.Tally.{Alike, Ends, Stops};
 
-use crate::rules::{code_refusal, name_refusal, span_refusal, wide};
+use crate::rules::{code_refusal, name_refusal, span_refusal};
+use crate::turns::Frame;
 
-// Past the name at p, 0 where none stands whole before another byte.
-fn name_end(b: &[u8], p: usize, number: bool) -> usize
+// Past the name at p, where one stands whole before another byte.
+fn name_end(b: &[u8], p: usize, number: bool) -> Option<usize>
     requires { p < length b.now }
     ensures { (x : Stack) → Ends b.now p (Stack.name number x) result x }
 {
-    let f = name_refusal(b, p, number);
-    if f.number != 0 {
-        return 0;
-    }
-    let end = p + 1 + wide(b[p]);
-    if end < b.len() { end } else { 0 }
+    name_refusal(b, p, number).ok()?;
+    let end = p + 1 + usize::from(b[p]);
+    (end < b.len()).then_some(end)
 }
 
-// Past the code at p, 0 where none stands whole before another byte.
-fn code_end(b: &[u8], p: usize) -> usize
+// Past the code at p, where one stands whole before another byte.
+fn code_end(b: &[u8], p: usize) -> Option<usize>
     requires { p < length b.now }
     ensures { (x : Stack) → Ends b.now p (Stack.code x) result x }
 {
-    let f = code_refusal(b, p);
-    if f.number != 0 {
-        return 0;
-    }
+    code_refusal(b, p).ok()?;
     let end = p + 4;
-    if end < b.len() { end } else { 0 }
+    (end < b.len()).then_some(end)
 }
 
-// Past the flat term at p, 0 where none stands whole before another byte.
-fn flat_end(b: &[u8], p: usize) -> usize
+// Past the flat term at p, where one stands whole before another byte.
+fn flat_end(b: &[u8], p: usize) -> Option<usize>
     requires { p < length b.now }
     ensures { (m : Mode) (d : ℕ) (x : Stack) → Ends b.now p (Stack.terms m d x) result (Stack.terms m d x) }
 {
     let m = b[p];
-    if m == 0 {
-        return 0;
-    }
-    if 6 < m {
-        return 0;
+    if !matches!(m, 1..=6) {
+        return None;
     }
     if b.len() - p < 10 {
-        return 0;
+        return None;
     }
-    let f = span_refusal(b, p + 1);
-    if f.number != 0 {
-        return 0;
-    }
+    span_refusal(b, p + 1).ok()?;
     match m {
         1 => code_end(b, p + 9),
         3 => name_end(b, p + 9, true),
@@ -65,68 +54,58 @@ fn flat_terms(b: &[u8], at: usize) -> usize
     ensures { (at ≤ result) × (result < length b.now) × ((m : Mode) (d : ℕ) (x : Stack) → Alike b.now at (Stack.terms m d x) result (Stack.terms m d x)) }
 {
     let mut p = at;
-    let mut q = flat_end(b, p);
-    while q != 0 {
-        p = q;
-        q = flat_end(b, p);
+    while let Some(end) = flat_end(b, p) {
+        p = end;
     }
     p
 }
 
-// Whether the frame that c packs is terms, told without unpacking it: 512 to 1023 are the kinds RESULT and PATTERN.
-fn is_terms(c: u16) -> bool
-    ensures { result ≡ true → TermsKind (unpacked c).kind }
+// Whether a frame is terms.
+fn is_terms(e: Frame) -> bool
+    ensures { result ≡ true → TermsAt e }
 {
-    if c < 512 {
-        return false;
-    }
-    c < 1024
+    matches!(e, Frame::Result(_) | Frame::Pattern(_))
 }
 
 // How many frames are left, and the place.
-#[derive(Clone, Copy)]
+#[derive(Clone, Copy, Debug, PartialEq, Eq)]
 pub struct Spot {
     pub n: usize,
     pub at: usize,
 }
 
-// Past the count and the names at `at`, 0 where they do not stand whole before another byte.
-fn counted_end(b: &[u8], at: usize) -> usize
+// Past the count and the names at `at`, where they stand whole before another byte.
+fn counted_end(b: &[u8], at: usize) -> Option<usize>
     requires { at < length b.now }
     ensures { (x : Stack) → Ends b.now at (Stack.counted x) result x }
 {
     if b.len() - at < 2 {
-        return 0;
+        return None;
     }
     let mut p = at + 1;
-    let mut left = b[at];
-    while 0 < left {
-        p = name_end(b, p, false);
-        if p == 0 {
-            return 0;
-        }
-        left -= 1;
+    for i in 0..b[at] {
+        p = name_end(b, p, false)?;
     }
-    p
+    Some(p)
 }
 
-// Past the names of a declaration, where its count is on top (2816 packs COUNTED): tried once, so that a refusal costs no more than twice the names.
-fn over_names(b: &[u8], s: &[u16], n: usize, at: usize) -> Spot
+// Past the names of a declaration, where its count is on top: tried once, so that a refusal costs no more than twice the names.
+fn over_names(b: &[u8], s: &[Frame], n: usize, at: usize) -> Spot
     requires { (at < length b.now) × (0 < n) × (n ≤ length s.now) }
     ensures { Stops b.now s.now n at result }
 {
-    if s[n - 1] < 2816 {
+    if !matches!(s[n - 1], Frame::Counted) {
         return Spot { n, at };
     }
-    let q = counted_end(b, at);
-    if q == 0 {
-        return Spot { n, at };
+    match counted_end(b, at) {
+        Some(end) => Spot { n: n - 1, at: end },
+        None => Spot { n, at },
     }
-    Spot { n: n - 1, at: q }
 }
 
-// Past flat terms, closes and declared names, which push no frame and count for nothing, up to any other byte.
-pub fn over_terms(b: &[u8], s: &[u16], top: usize, at: usize) -> Spot
+// Past flat terms, closes and declared names, which push no frame and count for nothing, up to any other byte. The height falls only
+// where a close stands.
+pub fn over_terms(b: &[u8], s: &[Frame], top: usize, at: usize) -> Spot
     requires { (at < length b.now) × (top ≤ length s.now) }
     ensures { Stops b.now s.now top at result }
 {

@@ -8,133 +8,81 @@ use image::number::read32;
 use program::Refusal;
 
 // What is wrong with the span at p.
-pub fn span_refusal(b: &[u8], p: usize) -> Refusal
+#[tactic(auto, unfolding(crate::specs::Steps::span_refusal))]
+pub fn span_refusal(b: &[u8], p: usize) -> Result<(), Refusal>
     requires { p ≤ length b.now }
     ensures { result ≡ span_refusal b.now p }
 {
     if b.len() - p < 8 {
-        return Refusal {
-            number: 5,
-            place: b.len(),
-        };
+        return Refusal::at(5, b.len());
     }
     if read32(b, p + 4) < read32(b, p) {
-        return Refusal {
-            number: 8,
-            place: p,
-        };
+        return Refusal::at(8, p);
     }
-    Refusal {
-        number: 0,
-        place: 0,
-    }
+    Ok(())
 }
 
-// A byte that a name allows, or that a number does.
+// A byte that a name allows, or that a number does: one flag tells them apart, as in the definitions' `allowed` and `scan`.
+#[tactic(auto, unfolding(program::specs::Limits::allowed))]
 fn is_allowed(number: bool, x: u8) -> bool
     ensures { result ≡ allowed number x }
 {
     if number {
-        if x < 48 {
-            return false;
-        }
-        x <= 57
+        matches!(x, 48..=57)
     } else {
-        if x < 33 {
-            return false;
-        }
-        x <= 126
+        matches!(x, 33..=126)
     }
 }
 
 // The first of n bytes from p on that no name allows, or the end where they run past it.
-fn scan_refusal(b: &[u8], p: usize, n: usize, number: bool) -> Refusal
+fn scan_refusal(b: &[u8], p: usize, n: usize, number: bool) -> Result<(), Refusal>
     requires { (p ≤ length b.now) × (n < 256) }
     ensures { result ≡ refusal_of (length b.now) (scan number n (drop p b.now)) }
 {
-    let mut i = 0;
-    while i < n {
+    for i in 0..n {
         if b.len() - p <= i {
-            return Refusal {
-                number: 5,
-                place: b.len(),
-            };
+            return Refusal::at(5, b.len());
         }
         if !is_allowed(number, b[p + i]) {
-            return Refusal {
-                number: 6,
-                place: p + i,
-            };
+            return Refusal::at(6, p + i);
         }
-        i += 1;
     }
-    Refusal {
-        number: 0,
-        place: 0,
-    }
+    Ok(())
 }
 
 // A code that a character may have.
+#[tactic(auto, unfolding(program::specs::Limits::scalar))]
 fn is_scalar(c: u32) -> bool
     ensures { result ≡ scalar c }
 {
-    if c < 55296 {
-        return true;
-    }
-    if c < 57344 {
-        return false;
-    }
-    c <= 1114111
-}
-
-// A byte as a length.
-pub fn wide(x: u8) -> usize
-    ensures { (result ≡ x) × (result < 256) }
-{
-    x as usize
+    matches!(c, 0..=55295 | 57344..=1114111)
 }
 
 // What is wrong with the name at p, or with the number.
-pub fn name_refusal(b: &[u8], p: usize, number: bool) -> Refusal
+#[tactic(auto, unfolding(crate::specs::Steps::name_refusal))]
+pub fn name_refusal(b: &[u8], p: usize, number: bool) -> Result<(), Refusal>
     requires { p < length b.now }
     ensures { result ≡ name_refusal b.now p number }
 {
     let k = b[p];
-    if k == 0 {
-        return Refusal {
-            number: 6,
-            place: p,
-        };
+    match k {
+        1..=63 => scan_refusal(b, p + 1, usize::from(k), number),
+        _ => Refusal::at(6, p),
     }
-    if 63 < k {
-        return Refusal {
-            number: 6,
-            place: p,
-        };
-    }
-    scan_refusal(b, p + 1, wide(k), number)
 }
 
 // What is wrong with the code at p.
-pub fn code_refusal(b: &[u8], p: usize) -> Refusal
+#[tactic(auto, unfolding(crate::specs::Steps::code_refusal))]
+pub fn code_refusal(b: &[u8], p: usize) -> Result<(), Refusal>
     requires { p ≤ length b.now }
     ensures { result ≡ code_refusal b.now p }
 {
     if b.len() - p < 4 {
-        return Refusal {
-            number: 5,
-            place: b.len(),
-        };
+        return Refusal::at(5, b.len());
     }
     if is_scalar(read32(b, p)) {
-        Refusal {
-            number: 0,
-            place: 0,
-        }
+        Ok(())
     } else {
-        Refusal {
-            number: 7,
-            place: p,
-        }
+        Refusal::at(7, p)
     }
 }

@@ -1,381 +1,252 @@
-// One turn of reading: what stands at a place, and what is still to come after it.
-ghost use Rattle.std.specs.Prelude.{◌≡◌, ℕ, ◌+◌, ◌-◌, ◌<◌, length, get_or, true};
-ghost use Rattle.reader.specs.Steps.{refusal, frame, push, span_step, name_step, barred_as, DoesAt, Does, TermsKind, bottom as bottomOf, bottom_after};
+// One turn of reading: what stands at a place, and what is still to come after it. Marks are bytes, as document 01 numbers them.
+ghost use Rattle.std.specs.Prelude.{◌≡◌, ℕ, ◌+◌, ◌-◌, ◌<◌, ◌≤◌, length, get_or, true};
+ghost use Rattle.program.specs.Automaton.{Stack};
+ghost use Rattle.reader.specs.Steps.{push, span_step, name_step, DoesAt, Does, TermsAt, bottom as bottomOf, functions_after};
 ghost use Rattle.reader.specs.Tally.{TurnDoes};
 
-use crate::rules::{code_refusal, name_refusal, span_refusal, wide};
+use crate::rules::{code_refusal, name_refusal, span_refusal};
 use program::Refusal;
 
-// A frame of the reader's stack: its kind, and a depth or a count.
-#[derive(Clone, Copy)]
-pub struct Frame {
-    pub kind: u8,
-    pub arg: u8,
+// A frame of the reader's stack, what is still to come: a number is a depth, or how many names come after the next.
+#[derive(Clone, Copy, Debug, PartialEq, Eq)]
+pub enum Frame {
+    Result(u8),
+    Pattern(u8),
+    Conditions(u8),
+    Sentences(u8),
+    Name,
+    Number,
+    Names(u8),
+    Code,
+    Visibility,
+    Counted,
 }
 
-// What a turn of the reader leads to: the next place, and n frames that take the place of the one on top, e0 deepest.
-#[derive(Clone, Copy)]
+// The stack is an array of frames.
+const _: () = prove!(size_of::<Frame>() == 2);
+
+// The frames that take the place of the one on top, the deepest first.
+#[derive(Clone, Copy, Debug, PartialEq, Eq)]
+pub enum Frames {
+    Nothing,
+    One(Frame),
+    Two(Frame, Frame),
+    Three(Frame, Frame, Frame),
+}
+
+// What a turn of the reader leads to: the next place, and what is to come there.
+#[derive(Clone, Copy, Debug, PartialEq, Eq)]
 pub struct Push {
     pub to: usize,
-    pub n: usize,
-    pub e0: Frame,
-    pub e1: Frame,
-    pub e2: Frame,
-    pub e3: Frame,
+    pub frames: Frames,
 }
 
-#[derive(Clone, Copy)]
-pub enum Step {
-    Refuse(Refusal),
-    Go(Push),
-}
-
-// The kinds of frames: what is to come.
-const RESULT: u8 = 2;
-
-const PATTERN: u8 = 3;
-
-const CONDITIONS: u8 = 4;
-
-const SENTENCES: u8 = 5;
-
-const NAME: u8 = 6;
-
-const NUMBER: u8 = 7;
-
-const NAMES: u8 = 8;
-
-const CODE: u8 = 9;
-
-const VISIBILITY: u8 = 10;
-
-const COUNTED: u8 = 11;
-
-fn refuse(number: u8, place: usize) -> Step
-    ensures { result ≡ Step.Refuse (refusal number place) }
+fn go(to: usize, frames: Frames) -> Result<Push, Refusal>
+    ensures { result ≡ Ok (push to frames) }
 {
-    Step::Refuse(Refusal { number, place })
-}
-
-fn go(to: usize, n: usize, e0: Frame, e1: Frame, e2: Frame, e3: Frame) -> Step
-    ensures { result ≡ Step.Go (push to n e0 e1 e2 e3) }
-{
-    Step::Go(Push {
-        to,
-        n,
-        e0,
-        e1,
-        e2,
-        e3,
-    })
+    Ok(Push { to, frames })
 }
 
 // After the mark at p: its span, then the frames.
-fn spanned(b: &[u8], p: usize, n: usize, e0: Frame, e1: Frame, e2: Frame, e3: Frame) -> Step
+#[tactic(auto, unfolding(crate::specs::Steps::span_step, crate::specs::Steps::step_of))]
+fn spanned(b: &[u8], p: usize, frames: Frames) -> Result<Push, Refusal>
     requires { p < length b.now }
-    ensures { result ≡ span_step b.now p n e0 e1 e2 e3 }
+    ensures { result ≡ span_step b.now p frames }
 {
-    let f = span_refusal(b, p + 1);
-    if f.number == 0 {
-        go(p + 9, n, e0, e1, e2, e3)
-    } else {
-        Step::Refuse(f)
-    }
+    span_refusal(b, p + 1)?;
+    go(p + 9, frames)
 }
 
 // The name at p, then the frames.
-fn named(b: &[u8], p: usize, number: bool, n: usize, e0: Frame) -> Step
+#[tactic(auto, unfolding(crate::specs::Steps::name_step, crate::specs::Steps::step_of))]
+fn named(b: &[u8], p: usize, number: bool, frames: Frames) -> Result<Push, Refusal>
     requires { p < length b.now }
-    ensures { result ≡ name_step b.now p number n e0 }
+    ensures { result ≡ name_step b.now p number frames }
 {
-    let f = name_refusal(b, p, number);
-    if f.number == 0 {
-        let len = wide(b[p]);
-        go(p + 1 + len, n, e0, e0, e0, e0)
-    } else {
-        Step::Refuse(f)
+    name_refusal(b, p, number)?;
+    go(p + 1 + usize::from(b[p]), frames)
+}
+
+// A turn at terms, t, where no bracket, call or block begins.
+fn turn_terms(b: &[u8], p: usize, t: Frame) -> Result<Push, Refusal>
+    requires { (p < length b.now) × TermsAt t × (7 ≤ get_or b.now p 0 → 9 < get_or b.now p 0) }
+    ensures { Does b.now p t result }
+{
+    match b[p] {
+        1 => spanned(b, p, Frames::Two(t, Frame::Code)),
+        2 | 4..=6 => spanned(b, p, Frames::Two(t, Frame::Name)),
+        3 => spanned(b, p, Frames::Two(t, Frame::Number)),
+        15 => go(p + 1, Frames::Nothing),
+        _ => Refusal::at(5, p),
     }
 }
 
-// A term that is its span and one field of a kind, before more terms.
-fn with_field(b: &[u8], p: usize, t: Frame, kind: u8) -> Step
+// A turn at terms of a pattern with d around them, where a call or block is refused however deep it stands.
+fn turn_pattern(b: &[u8], p: usize, d: u8) -> Result<Push, Refusal>
     requires { p < length b.now }
-    ensures { result ≡ span_step b.now p 2 t (frame kind 0) t t }
+    ensures { Does b.now p (Frame.Pattern d) result }
 {
-    let f = Frame { kind, arg: 0 };
-    spanned(b, p, 2, t, f, t, t)
-}
-
-// The refusal that a call or a block meets where it stands, 0 for none: in a pattern, then too deep.
-fn barred(kind: u8, d: u8) -> u8
-    ensures { result ≡ barred_as kind d }
-{
-    if kind == PATTERN {
-        return 9;
-    }
-    if d < 32 { 0 } else { 10 }
-}
-
-// A turn at terms.
-fn turn_terms(b: &[u8], p: usize, kind: u8, d: u8) -> Step
-    requires { (p < length b.now) × TermsKind kind }
-    ensures { Does b.now p (frame kind d) result }
-{
-    let t = Frame { kind, arg: d };
-    let m = b[p];
-    match m {
-        1 => with_field(b, p, t, CODE),
-        2 => with_field(b, p, t, NAME),
-        3 => with_field(b, p, t, NUMBER),
-        4 => with_field(b, p, t, NAME),
-        5 => with_field(b, p, t, NAME),
-        6 => with_field(b, p, t, NAME),
+    let t = Frame::Pattern(d);
+    match b[p] {
         7 => {
             if d < 32 {
-                spanned(b, p, 2, t, Frame { kind, arg: d + 1 }, t, t)
+                spanned(b, p, Frames::Two(t, Frame::Pattern(d + 1)))
             } else {
-                refuse(10, p)
+                Refusal::at(10, p)
             }
         }
-        8 => {
-            let n = barred(kind, d);
-            if n == 0 {
-                spanned(
-                    b,
-                    p,
-                    3,
-                    t,
-                    Frame { kind, arg: d + 1 },
-                    Frame { kind: NAME, arg: 0 },
-                    t,
-                )
-            } else {
-                refuse(n, p)
-            }
-        }
-        9 => {
-            let n = barred(kind, d);
-            if n == 0 {
-                spanned(
-                    b,
-                    p,
-                    3,
-                    t,
-                    Frame {
-                        kind: SENTENCES,
-                        arg: d + 1,
-                    },
-                    Frame { kind, arg: d + 1 },
-                    t,
-                )
-            } else {
-                refuse(n, p)
-            }
-        }
-        15 => go(p + 1, 0, t, t, t, t),
-        _ => refuse(5, p),
+        8 | 9 => Refusal::at(9, p),
+        _ => turn_terms(b, p, t),
+    }
+}
+
+// A turn at terms of a result with d around them.
+fn turn_result(b: &[u8], p: usize, d: u8) -> Result<Push, Refusal>
+    requires { p < length b.now }
+    ensures { Does b.now p (Frame.Result d) result }
+{
+    let t = Frame::Result(d);
+    let m = b[p];
+    if !matches!(m, 7..=9) {
+        return turn_terms(b, p, t);
+    }
+    if 32 <= d {
+        return Refusal::at(10, p);
+    }
+    let inner = Frame::Result(d + 1);
+    match m {
+        7 => spanned(b, p, Frames::Two(t, inner)),
+        8 => spanned(b, p, Frames::Three(t, inner, Frame::Name)),
+        _ => spanned(b, p, Frames::Three(t, Frame::Sentences(d + 1), inner)),
     }
 }
 
 // A turn at a sentence's conditions and result.
-fn turn_conditions(b: &[u8], p: usize, d: u8) -> Step
+fn turn_conditions(b: &[u8], p: usize, d: u8) -> Result<Push, Refusal>
     requires { p < length b.now }
-    ensures { Does b.now p (frame 4 d) result }
+    ensures { Does b.now p (Frame.Conditions d) result }
 {
-    let c = Frame {
-        kind: CONDITIONS,
-        arg: d,
-    };
-    let t = Frame {
-        kind: RESULT,
-        arg: d,
-    };
-    let m = b[p];
-    match m {
+    let t = Frame::Result(d);
+    match b[p] {
         11 => spanned(
             b,
             p,
-            3,
-            c,
-            Frame {
-                kind: PATTERN,
-                arg: d,
-            },
-            t,
-            t,
+            Frames::Three(Frame::Conditions(d), Frame::Pattern(d), t),
         ),
-        12 => go(p + 1, 1, t, t, t, t),
-        _ => refuse(5, p),
+        12 => go(p + 1, Frames::One(t)),
+        _ => Refusal::at(5, p),
     }
 }
 
 // A turn at sentences.
-fn turn_sentences(b: &[u8], p: usize, d: u8) -> Step
+fn turn_sentences(b: &[u8], p: usize, d: u8) -> Result<Push, Refusal>
     requires { p < length b.now }
-    ensures { Does b.now p (frame 5 d) result }
+    ensures { Does b.now p (Frame.Sentences d) result }
 {
-    let s = Frame {
-        kind: SENTENCES,
-        arg: d,
-    };
-    let m = b[p];
-    match m {
+    let s = Frame::Sentences(d);
+    match b[p] {
         10 => spanned(
             b,
             p,
-            3,
-            s,
-            Frame {
-                kind: CONDITIONS,
-                arg: d,
-            },
-            Frame {
-                kind: PATTERN,
-                arg: d,
-            },
-            s,
+            Frames::Three(s, Frame::Conditions(d), Frame::Pattern(d)),
         ),
-        15 => go(p + 1, 0, s, s, s, s),
-        _ => refuse(5, p),
+        15 => go(p + 1, Frames::Nothing),
+        _ => Refusal::at(5, p),
     }
 }
 
-// A turn below all frames: where declarations and functions stand, or functions only.
-fn turn_bottom(b: &[u8], p: usize, bottom: u8) -> Step
+// A turn below all frames, where declarations stand as long as there are no functions.
+fn turn_bottom(b: &[u8], p: usize, functions: usize) -> Result<Push, Refusal>
     requires { p < length b.now }
-    ensures { DoesAt b.now p (bottomOf bottom) (bottomOf (bottom_after (get_or b.now p 0) bottom)) result }
+    ensures { DoesAt b.now p (bottomOf functions) (bottomOf (functions_after (get_or b.now p 0) functions)) result }
 {
-    let z = Frame { kind: 0, arg: 0 };
-    let s = Frame {
-        kind: SENTENCES,
-        arg: 0,
-    };
-    let n = Frame { kind: NAME, arg: 0 };
-    let e = Frame {
-        kind: VISIBILITY,
-        arg: 0,
-    };
-    let m = b[p];
-    if bottom == 0 {
-        match m {
-            17 => spanned(
-                b,
-                p,
-                1,
-                Frame {
-                    kind: COUNTED,
-                    arg: 0,
-                },
-                z,
-                z,
-                z,
-            ),
-            18 => spanned(b, p, 3, s, n, e, z),
-            _ => refuse(5, p),
+    match b[p] {
+        17 => {
+            if functions == 0 {
+                spanned(b, p, Frames::One(Frame::Counted))
+            } else {
+                Refusal::at(5, p)
+            }
         }
-    } else if m == 18 {
-        spanned(b, p, 3, s, n, e, z)
-    } else {
-        refuse(5, p)
+        18 => spanned(
+            b,
+            p,
+            Frames::Three(Frame::Sentences(0), Frame::Name, Frame::Visibility),
+        ),
+        _ => Refusal::at(5, p),
     }
 }
 
 // A turn at a character's code.
-fn turn_code(b: &[u8], p: usize) -> Step
+fn turn_code(b: &[u8], p: usize) -> Result<Push, Refusal>
     requires { p < length b.now }
-    ensures { (a : ℕ) → Does b.now p (frame 9 a) result }
+    ensures { Does b.now p Frame.Code result }
 {
-    let z = Frame { kind: 0, arg: 0 };
-    let f = code_refusal(b, p);
-    if f.number == 0 {
-        go(p + 4, 0, z, z, z, z)
-    } else {
-        Step::Refuse(f)
-    }
+    code_refusal(b, p)?;
+    go(p + 4, Frames::Nothing)
 }
 
 // A turn at a function's visibility.
-fn turn_visibility(b: &[u8], p: usize) -> Step
+fn turn_visibility(b: &[u8], p: usize) -> Result<Push, Refusal>
     requires { p < length b.now }
-    ensures { (a : ℕ) → Does b.now p (frame 10 a) result }
+    ensures { Does b.now p Frame.Visibility result }
 {
-    let z = Frame { kind: 0, arg: 0 };
-    let m = b[p];
-    if m < 2 {
-        go(p + 1, 0, z, z, z, z)
+    if b[p] < 2 {
+        go(p + 1, Frames::Nothing)
     } else {
-        refuse(5, p)
+        Refusal::at(5, p)
     }
 }
 
 // A turn at a declaration's count.
-fn turn_counted(b: &[u8], p: usize) -> Step
+fn turn_counted(b: &[u8], p: usize) -> Result<Push, Refusal>
     requires { p < length b.now }
-    ensures { (a : ℕ) → Does b.now p (frame 11 a) result }
+    ensures { Does b.now p Frame.Counted result }
 {
-    let z = Frame { kind: 0, arg: 0 };
-    let m = b[p];
-    if m == 0 {
-        go(p + 1, 0, z, z, z, z)
-    } else {
-        let s = Frame {
-            kind: NAMES,
-            arg: m - 1,
-        };
-        go(p + 1, 1, s, s, s, s)
+    match b[p] {
+        0 => go(p + 1, Frames::Nothing),
+        n => go(p + 1, Frames::One(Frame::Names(n - 1))),
     }
 }
 
 // A turn at a declaration's names.
-fn turn_names(b: &[u8], p: usize, n: u8) -> Step
+fn turn_names(b: &[u8], p: usize, n: u8) -> Result<Push, Refusal>
     requires { p < length b.now }
-    ensures { Does b.now p (frame 8 n) result }
+    ensures { Does b.now p (Frame.Names n) result }
 {
     if n == 0 {
-        named(b, p, false, 0, Frame { kind: 0, arg: 0 })
+        named(b, p, false, Frames::Nothing)
     } else {
-        named(
-            b,
-            p,
-            false,
-            1,
-            Frame {
-                kind: NAMES,
-                arg: n - 1,
-            },
-        )
+        named(b, p, false, Frames::One(Frame::Names(n - 1)))
     }
 }
 
 // A turn at a frame.
-fn turn_frame(b: &[u8], p: usize, e: Frame) -> Step
+fn turn_frame(b: &[u8], p: usize, e: Frame) -> Result<Push, Refusal>
     requires { p < length b.now }
     ensures { Does b.now p e result }
 {
-    let k = e.kind;
-    let a = e.arg;
-    match k {
-        2 => turn_terms(b, p, k, a),
-        3 => turn_terms(b, p, k, a),
-        4 => turn_conditions(b, p, a),
-        5 => turn_sentences(b, p, a),
-        6 => named(b, p, false, 0, e),
-        7 => named(b, p, true, 0, e),
-        8 => turn_names(b, p, a),
-        9 => turn_code(b, p),
-        10 => turn_visibility(b, p),
-        _ => turn_counted(b, p),
+    match e {
+        Frame::Result(d) => turn_result(b, p, d),
+        Frame::Pattern(d) => turn_pattern(b, p, d),
+        Frame::Conditions(d) => turn_conditions(b, p, d),
+        Frame::Sentences(d) => turn_sentences(b, p, d),
+        Frame::Name => named(b, p, false, Frames::Nothing),
+        Frame::Number => named(b, p, true, Frames::Nothing),
+        Frame::Names(n) => turn_names(b, p, n),
+        Frame::Code => turn_code(b, p),
+        Frame::Visibility => turn_visibility(b, p),
+        Frame::Counted => turn_counted(b, p),
     }
 }
 
-// A turn with n frames on the bottom, e on top.
-pub fn turn(b: &[u8], p: usize, bottom: u8, n: usize, e: Frame) -> Step
+// A turn at the frame on top, or below all frames, where so many functions are passed.
+pub fn turn(b: &[u8], p: usize, functions: usize, top: Option<Frame>) -> Result<Push, Refusal>
     requires { p < length b.now }
-    ensures { TurnDoes b.now p bottom n e result }
+    ensures { TurnDoes b.now p functions top result }
 {
-    if n == 0 {
-        turn_bottom(b, p, bottom)
-    } else {
-        turn_frame(b, p, e)
+    match top {
+        Some(e) => turn_frame(b, p, e),
+        None => turn_bottom(b, p, functions),
     }
 }

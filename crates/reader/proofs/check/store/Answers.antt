@@ -1,13 +1,12 @@
 -- `reader::check::store` meets its contract. Assumes nothing.
-use lib.ListN.{length-set}
-use native.Mathlib.Omega.{arith}
+use Rattle.reader.proofs.Loop.{stored-one, stored-two, stored-three}
 use Rattle.reader.proofs.check.store.Goals as goal
 
-pub bounds-s-i-2 : goal.bounds-s-i-2
-bounds-s-i-2 c = simp length-set (omega arith)
+pub returns-in-One : goal.returns-in-One
+returns-in-One c = rw c.in-One.is (stored-one _ _ c.requires _)
 
-pub bounds-s-i-3 : goal.bounds-s-i-3
-bounds-s-i-3 c = simp length-set (omega arith)
+pub returns-in-Two : goal.returns-in-Two
+returns-in-Two c = rw c.in-Two.is (stored-two _ _ c.requires _ _)
 
-pub bounds-s-i-4 : goal.bounds-s-i-4
-bounds-s-i-4 c = simp length-set (omega arith)
+pub returns-in-Three : goal.returns-in-Three
+returns-in-Three c = rw c.in-Three.is (stored-three _ _ c.requires _ _ _)

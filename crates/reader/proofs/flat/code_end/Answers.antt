@@ -1,12 +1,7 @@
 -- `reader::flat::code_end` meets its contract. Assumes nothing.
-use Rattle.reader.proofs.Passing.{no_end, code-ends}
+use Rattle.reader.proofs.Passing.{good_of, ends_if, code-ends}
+use mathlib.Core.Path.{◌∙◌, sym}
 use Rattle.reader.proofs.flat.code_end.Goals as goal
 
-pub returns-then-f-ne0 : goal.returns-then-f-ne0
-returns-then-f-ne0 c = λ x. no_end
-
-pub returns-then-end-b : goal.returns-then-end-b
-returns-then-end-b c = code-ends c.args.b.now c.args.p c.requires c.if-end-b.true c.code_refusal-f.ensures c.if-f-ne0.false
-
-pub returns-else-end-b : goal.returns-else-end-b
-returns-else-end-b c = λ x. no_end
+pub returns : goal.returns
+returns c = λ x. ends_if _ _ _ _ _ c.then_some.ensures (code-ends _ _ c.requires (sym c.code_refusal.ensures ∙ good_of (sym c.ok.ensures.value ∙ c.in_ok-ok.was)) x)

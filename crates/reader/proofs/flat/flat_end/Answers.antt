@@ -1,24 +1,19 @@
 -- `reader::flat::flat_end` meets its contract. Assumes nothing.
-use Rattle.reader.proofs.Passing.{no_end, flat_character, flat_number, flat_word, word-marks}
+use native.Mathlib.Omega.{arith}
+use mathlib.Core.Path.{◌∙◌, sym}
+use lib.ListN.{get_or}
+use Prim.Native.Nat.{◌≤◌}
+use Rattle.reader.proofs.Passing.{good_of, flat_character, flat_number, flat_word}
 use Rattle.reader.proofs.flat.flat_end.Goals as goal
-
-pub returns-then-m-eq0 : goal.returns-then-m-eq0
-returns-then-m-eq0 c = λ m d x. no_end
-
-pub returns-then-m-gt6 : goal.returns-then-m-gt6
-returns-then-m-gt6 c = λ m d x. no_end
-
-pub returns-then-b-p-lt10 : goal.returns-then-b-p-lt10
-returns-then-b-p-lt10 c = λ m d x. no_end
-
-pub returns-then-f-ne0 : goal.returns-then-f-ne0
-returns-then-f-ne0 c = λ m d x. no_end
+use Rattle.reader.proofs.flat.flat_end.Goals.{in-1-to-6, in_default, in_default-2}
 
 pub returns-in-1 : goal.returns-in-1
-returns-in-1 c = flat_character c.args.b.now c.args.p c.requires c.span_refusal-f.ensures c.if-f-ne0.false c.in-1.is c.code_end.ensures
+returns-in-1 c = flat_character _ _ c.requires (sym c.span_refusal.ensures ∙ good_of (sym c.ok.ensures.value ∙ c.in_ok-ok.was)) c.in-1.is _ c.code_end.ensures
 
 pub returns-in-3 : goal.returns-in-3
-returns-in-3 c = flat_number c.args.b.now c.args.p c.requires c.span_refusal-f.ensures c.if-f-ne0.false c.in-3.is c.name_end.ensures
+returns-in-3 c = flat_number _ _ c.requires (sym c.span_refusal.ensures ∙ good_of (sym c.ok.ensures.value ∙ c.in_ok-ok.was)) c.in-3.is _ c.name_end.ensures
 
-pub returns-in_default : goal.returns-in_default
-returns-in_default c = flat_word c.args.b.now c.args.p c.requires c.span_refusal-f.ensures c.if-f-ne0.false (word-marks _ c.if-m-eq0.false c.if-m-gt6.false c.in_default.in_default-own.rest.0.1 c.in_default.in_default-own.rest.1) c.name_end-in_default.ensures
+pub returns-in_default-m : goal.returns-in_default-m
+returns-in_default-m c =
+    let m : (2 ≤ get_or c.args.b.now c.args.p 0) × (get_or c.args.b.now c.args.p 0 ≤ 6) = elim c.if-matches.branch [ in-1-to-6 w ↦ (omega arith, omega arith) | in_default w ↦ cc | in_default-2 w ↦ cc ] in
+    flat_word _ _ c.requires (sym c.span_refusal.ensures ∙ good_of (sym c.ok.ensures.value ∙ c.in_ok-ok.was)) m.0 m.1 (λ z. omega arith) _ c.name_end-in_default-m.ensures

@@ -3,11 +3,11 @@ use Prim.Native.Nat.{ℕ, ◌-◌, ◌≤◌, ◌<◌}
 use lib.ListN.{length}
 use Rattle.program.specs.Limits.{Mode}
 use Rattle.program.specs.Automaton.{Stack}
-use Rattle.reader.specs.Tally.{Alike, Ends}
+use Rattle.reader.specs.Tally.{Alike}
 use Rattle.reader.proofs.flat.flat_terms.Given as goal
 
-abbrev pub invariant-loop-q : goal.invariant-loop-q
-invariant-loop-q l = (l.at ≤ l.p) × (l.p < length l.b) × ((m : Mode) (d : ℕ) (x : Stack) → Alike l.b l.at (Stack.terms m d x) l.p (Stack.terms m d x)) × ((m : Mode) (d : ℕ) (x : Stack) → Ends l.b l.p (Stack.terms m d x) l.q (Stack.terms m d x))
+abbrev pub invariant-loop-end : goal.invariant-loop-end
+invariant-loop-end l = (l.at ≤ l.p) × (l.p < length l.b) × ((m : Mode) (d : ℕ) (x : Stack) → Alike l.b l.at (Stack.terms m d x) l.p (Stack.terms m d x))
 
-abbrev pub decreases-loop-q : goal.decreases-loop-q
-decreases-loop-q l = length l.b - l.p
+abbrev pub decreases-loop-end : goal.decreases-loop-end
+decreases-loop-end l = length l.b - l.p

@@ -1,9 +1,20 @@
 -- `reader::turns::turn_code` meets its contract. Assumes nothing.
+use native.Mathlib.Omega.{arith}
+use mathlib.Core.Path.{◌≡◌, sym, subst}
+use Rattle.std.specs.Prelude.{Result, Err}
+use Rattle.std.proofs.lemmas.Grind.{common_steps}
+use Rattle.program.specs.declared.Refusal.{Refusal}
+use Rattle.reader.specs.Steps.{Does}
+use Rattle.reader.specs.declared.turns.Frame.{Frame}
+use Rattle.reader.specs.declared.turns.Push.{Push}
 use Rattle.reader.proofs.Turning.{code-on, code_off}
 use Rattle.reader.proofs.turns.turn_code.Goals as goal
 
-pub returns-then-f-eq0 : goal.returns-then-f-eq0
-returns-then-f-eq0 c = λ a. code-on _ _ c.requires a c.code_refusal-f.ensures c.if-f-eq0.true _ c.go.ensures
+pub returns-in_err-code_refusal : goal.returns-in_err-code_refusal
+returns-in_err-code_refusal c =
+    let e : c.from_residual.result ≡ Err c.in_err-code_refusal.field-0.0 = grind (arith, common_steps) in
+    let F : Result Push Refusal → Type 0 = λ r. Does c.args.b.now c.args.p Frame.Code r in
+    subst F (sym e) (code_off _ _ c.requires (c.in_err-code_refusal.ensures))
 
-pub returns-else-f-eq0 : goal.returns-else-f-eq0
-returns-else-f-eq0 c = λ a. code_off _ _ c.requires a c.code_refusal-f.ensures c.if-f-eq0.false
+pub returns : goal.returns
+returns c = code-on _ _ c.requires (c.in_ok-code_refusal.ensures) c.go.ensures

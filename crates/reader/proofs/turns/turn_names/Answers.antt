@@ -4,7 +4,7 @@ use mathlib.Core.Path.{refl}
 use Rattle.reader.proofs.turns.turn_names.Goals as goal
 
 pub returns-then-n-eq0 : goal.returns-then-n-eq0
-returns-then-n-eq0 c = names-last _ _ c.requires _ _ c.if-n-eq0.true c.named.ensures
+returns-then-n-eq0 c = names-last _ _ c.requires _ c.if-n-eq0.true c.named.ensures
 
 pub returns-else-n-eq0 : goal.returns-else-n-eq0
 returns-else-n-eq0 c = names_more _ _ c.requires _ _ c.if-n-eq0.false refl c.named-else-n-eq0.ensures

@@ -2,8 +2,8 @@
 use Rattle.reader.proofs.Turning.{visibility_fine, visibility-wrong}
 use Rattle.reader.proofs.turns.turn_visibility.Goals as goal
 
-pub returns-then-m-lt2 : goal.returns-then-m-lt2
-returns-then-m-lt2 c = λ a. visibility_fine _ _ c.requires a c.if-m-lt2.true _ c.go.ensures
+pub returns-then-b-p-lt2 : goal.returns-then-b-p-lt2
+returns-then-b-p-lt2 c = visibility_fine _ _ c.requires c.if-b-p-lt2.true c.go.ensures
 
-pub returns-else-m-lt2 : goal.returns-else-m-lt2
-returns-else-m-lt2 c = λ a. visibility-wrong _ _ c.requires a c.if-m-lt2.false c.refuse.ensures
+pub returns-else-b-p-lt2 : goal.returns-else-b-p-lt2
+returns-else-b-p-lt2 c = visibility-wrong _ _ c.requires c.if-b-p-lt2.false c.at.ensures

@@ -90,6 +90,6 @@ module _ (b m : List ℕ) (next known rest other fuel : ℕ) (a : Ahead b m next
       go (suc n) h c = (h.0, subst (λ (k : ℕ). Way b (in_turn m (next + 3) k []) (end_at m next).fuel rest (end_at m next).place) (omega arith) h.1)
 
 -- No end is known.
-pub onwards_none : (b m : List ℕ) (top : ℕ) (r : Step) → r.known ≡ 0 → r.next ≡ top → Onwards b m top r
+pub onwards_none : (b m : List ℕ) (top : ℕ) (r : Step) → r.ends.known ≡ 0 → r.ends.next ≡ top → Onwards b m top r
 unfolding in_turn
-onwards_none b m top r k n = record { way = subst (λ (d : ℕ). Way b (in_turn m r.next d []) r.fuel r.left r.right) (sym k) way-any; is = omega (arith, k, n) }
+onwards_none b m top r k n = record { way = subst (λ (d : ℕ). Way b (in_turn m r.ends.next d []) r.fuel r.left r.right) (sym k) way-any; is = omega (arith, k, n) }

@@ -18,6 +18,7 @@ use Rattle.overlap.specs.Way.{End, Next, Fails, fails-none, fails_more}
 use Rattle.rows.proofs.Readings.{part, at_part, mark_in, place_after, after_term, is-empty, is_not_empty}
 use Rattle.text.specs.Fill.{Emitted, limit}
 use Rattle.text.proofs.Fill.{emitted-nothing, emitted-append}
+use Rattle.expression.specs.declared.walk.Ends.{Ends}
 use Rattle.expression.specs.declared.walk.Step.{Step}
 use Rattle.expression.specs.Free.{first_bytes}
 use Rattle.expression.specs.Walk.{meet_bytes, split_bytes, Stepped, Followed}
@@ -161,9 +162,9 @@ module _ {b old new whole : List ℕ} {at other fuel right place : ℕ} {swapped
 
 -- ---- steps in a row
 
-pub stepped_first : (b old : List ℕ) (at left right fuel next known : ℕ) (swapped : Bool) (x : TermsAt Mode.pattern (drop left b)) (y : TermsAt Mode.pattern (drop right b))
-    → Stepped b old at (left + right) fuel (meet_bytes swapped fuel x.terms y.terms) (record { left = left; right = right; swapped = swapped; fuel = fuel; place = at; next = next; known = known }) old
-stepped_first b old at left right fuel next known swapped x y = record { text = []; emitted = emitted-nothing old at; first = x; second = y; is = refl; further = omega arith; less = omega arith }
+pub stepped_first : (b old : List ℕ) (at left right fuel : ℕ) (ends : Ends) (swapped : Bool) (x : TermsAt Mode.pattern (drop left b)) (y : TermsAt Mode.pattern (drop right b))
+    → Stepped b old at (left + right) fuel (meet_bytes swapped fuel x.terms y.terms) (record { left = left; right = right; swapped = swapped; fuel = fuel; place = at; ends = ends }) old
+stepped_first b old at left right fuel ends swapped x y = record { text = []; emitted = emitted-nothing old at; first = x; second = y; is = refl; further = omega arith; less = omega arith }
 
 -- The same step, of a whole by another name.
 pub stepped_as : {b old new whole other : List ℕ} {at from behind fuel : ℕ} {r : Step} → whole ≡ other → from ≤ behind → Stepped b old at behind fuel other r new → Stepped b old at from fuel whole r new

@@ -55,8 +55,8 @@ end_of place fuel = record { place = place; fuel = fuel }
 
 -- What a step leaves takes the ends that stand in the room m up to `top`.
 pub record Onwards (b m : List ℕ) (top : ℕ) (r : Step) : Type 0 where
-  pub way : Way b (in_turn m r.next r.known []) r.fuel r.left r.right
-  pub is : r.next + 3 * r.known ≡ top
+  pub way : Way b (in_turn m r.ends.next r.ends.known []) r.fuel r.left r.right
+  pub is : r.ends.next + 3 * r.ends.known ≡ top
 
 -- The split in turn takes the first of them.
 abbrev pub Ahead : List ℕ → List ℕ → ℕ → ℕ → ℕ → ℕ → ℕ → Type 0

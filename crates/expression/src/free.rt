@@ -15,19 +15,16 @@ pub fn put_free_term(out: &mut [u8], at: usize, s: &[u8]) -> usize
     requires { FirstAt s.now at × (get_or s.now 0 0 ≡ 15 → ⊥) }
     ensures { (t : TermsAt Mode.pattern s.now) → Emitted out.old at (first_bytes t.terms) result out.new }
 {
-    let m = s[0];
-    if m == 7 {
-        let inside = put_mark(out, at, 7);
-        let close = put_free(out, inside, &s[9..]);
-        return put_byte(out, close, 15);
+    match s[0] {
+        7 => {
+            let inside = put_mark(out, at, 7);
+            let close = put_free(out, inside, &s[9..]);
+            put_byte(out, close, 15)
+        }
+        6 => at,
+        ..4 => put_symbol(out, at, s),
+        _ => put_letter(out, at),
     }
-    if m < 4 {
-        return put_symbol(out, at, s);
-    }
-    if m == 6 {
-        return at;
-    }
-    put_letter(out, at)
 }
 
 // The terms at the start of s.

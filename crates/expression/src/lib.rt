@@ -12,10 +12,20 @@ ghost use Rattle.patterns.specs.Marks.{put_expression};
 ghost use Rattle.patterns.specs.Meet.{meet};
 ghost use Rattle.text.specs.Fill.{Emitted};
 
+use crate::walk::{Ends, Step};
+
 // What the patterns at p and q of a body meet in, along the first successful split: written as far as it fits, and its length.
 pub fn put_meeting(b: &[u8], p: usize, q: usize, out: &mut [u8], room: &mut [u32]) -> usize
     requires { TermsAt Mode.pattern (drop p b.now) × TermsAt Mode.pattern (drop q b.now) × (length b.now ≤ 32768) }
     ensures { (x : TermsAt Mode.pattern (drop p b.now)) (y : TermsAt Mode.pattern (drop q b.now)) → Emitted out.old 0 (put_expression (meet x.terms y.terms) []) result out.new }
 {
-    walk::meet(b, p, q, false, 4096, out, 0, 0, room)
+    let start = Step {
+        left: p,
+        right: q,
+        swapped: false,
+        fuel: 4096,
+        place: 0,
+        ends: Ends { next: 0, known: 0 },
+    };
+    walk::meet(b, start, out, room)
 }

@@ -48,6 +48,6 @@ pub fn put_letter(out: &mut [u8], at: usize) -> usize
 {
     let zeros = [0u8; 3];
     let fields = put_mark(out, at, 1);
-    let rest = put_byte(out, fields, 65);
+    let rest = put_byte(out, fields, b'A');
     put_bytes(out, rest, &zeros)
 }

@@ -1,6 +1,6 @@
 // The walk along the search's first success: heads in turn, and at an `e.` variable the first end that meets the rest. The ends are
 // found once for each pair of sequences and stand in the room; where none was found the search is asked at each end.
-ghost use Rattle.std.specs.Prelude.{ℕ, suc, ◌+◌, ◌*◌, ◌<◌, ◌≤◌, ◌≡◌, Bool, [], length, get_or, drop};
+ghost use Rattle.std.specs.Prelude.{ℕ, suc, ◌+◌, ◌*◌, ◌<◌, ◌≤◌, ◌≡◌, Bool, None, IfSome, [], length, get_or, drop};
 ghost use Rattle.program.specs.Limits.{Mode};
 ghost use Rattle.image.specs.Parts.{TermsAt};
 ghost use Rattle.patterns.specs.Search.{sequence};
@@ -13,13 +13,33 @@ ghost use Rattle.expression.specs.Walk.{meet_bytes, split_bytes, head_bytes, Mee
 use crate::free::put_free_term;
 use crate::records::put_mark;
 use image::part::term_len;
-use overlap::way::{find_way, fuel_in, place_in};
-use overlap::{is_overlap, overlap_behind};
-use patterns::Found;
+use overlap::overlap_behind;
+use overlap::way::{Opening, find_way, split_in};
+use patterns::{Found, Verdict};
 use text::emit::put_byte;
 
-// Two patterns, whether they have changed places, the fuel of the search on them, where the rest is written, where the ends that
-// they take stand, and how many of them are known.
+// The ends that are known: where the first of them stands in the room, and how many there are.
+#[derive(Clone, Copy)]
+pub struct Ends {
+    pub next: usize,
+    pub known: usize,
+}
+
+impl Ends {
+    // The first of them, if there is one.
+    fn first(self, room: &[u32]) -> Option<Opening>
+        requires { self.next + 3 * self.known ≤ length room.now }
+        ensures { (result ≡ None → self.known ≡ 0) × IfSome result (λ o. (self.known ≡ 0 → ⊥) × (o.other ≡ get_or room.now (self.next + 1) 0) × (o.fuel ≡ get_or room.now (self.next + 2) 0)) }
+    {
+        if self.known == 0 {
+            return None;
+        }
+        Some(split_in(room, self.next))
+    }
+}
+
+// Two patterns, whether they have changed places, the fuel of the search on them, where the rest is written, and the ends that they
+// take.
 #[derive(Clone, Copy)]
 pub struct Step {
     pub left: usize,
@@ -27,8 +47,7 @@ pub struct Step {
     pub swapped: bool,
     pub fuel: u32,
     pub place: usize,
-    pub next: usize,
-    pub known: usize,
+    pub ends: Ends,
 }
 
 // What the search says of the patterns at two places: the one question that the walk asks.
@@ -40,53 +59,43 @@ fn asked(b: &[u8], p: usize, q: usize, fuel: u32, from: usize, room: &mut [u32])
     overlap_behind(b, p, q, fuel, from, room)
 }
 
-// The ends of `other` in turn, until one meets the rest; an `e.` variable takes the terms before it. Where none does there is
-// no fuel left to go on with.
-fn ask(
-    b: &[u8],
-    rest: usize,
-    other: usize,
-    swapped: bool,
-    fuel: u32,
-    out: &mut [u8],
-    at: usize,
-    from: usize,
-    room: &mut [u32],
-) -> Step
-    requires { Splits b.now rest other swapped fuel at × (length b.now ≤ 32768) × (fuel ≤ 4096) }
-    ensures steps { (x : TermsAt Mode.pattern (drop rest b.now)) (y : TermsAt Mode.pattern (drop other b.now)) → Stepped b.now out.old at (rest + other) fuel (split_bytes swapped fuel x.terms y.terms) result out.new }
-    ensures keeps { (result.next ≡ from) × (result.known ≡ 0) × Kept from room.old room.new }
+// The ends of the right side in turn, until one meets the rest, the left side; an `e.` variable takes the terms before it. Where none
+// does there is no fuel left to go on with.
+fn ask(b: &[u8], step: Step, out: &mut [u8], room: &mut [u32]) -> Step
+    requires { Splits b.now step.left step.right step.swapped step.fuel step.place × (length b.now ≤ 32768) × (step.fuel ≤ 4096) }
+    ensures steps { (x : TermsAt Mode.pattern (drop step.left b.now)) (y : TermsAt Mode.pattern (drop step.right b.now)) → Stepped b.now out.old step.place (step.left + step.right) step.fuel (split_bytes step.swapped step.fuel x.terms y.terms) result out.new }
+    ensures keeps { (result.ends.next ≡ step.ends.next) × (result.ends.known ≡ 0) × Kept step.ends.next room.old room.new }
 {
-    let mut right = other;
-    let mut f = fuel;
-    let mut place = at;
+    let mut right = step.right;
+    let mut fuel = step.fuel;
+    let mut place = step.place;
+    let ends = Ends {
+        known: 0,
+        ..step.ends
+    };
     loop {
-        let q = asked(b, rest, right, f, from, room);
+        let q = asked(b, step.left, right, fuel, step.ends.next, room);
         let verdict = q.verdict;
         let x = &b[right..];
-        if is_overlap(verdict) {
+        if verdict == Verdict::Overlap {
             return Step {
-                left: rest,
                 right,
-                swapped,
-                fuel: f,
+                fuel,
                 place,
-                next: from,
-                known: 0,
+                ends,
+                ..step
             };
         }
         if x[0] == 15 {
             return Step {
-                left: rest,
                 right,
-                swapped,
                 fuel: 0,
                 place,
-                next: from,
-                known: 0,
+                ends,
+                ..step
             };
         }
-        f = q.fuel;
+        fuel = q.fuel;
         place = put_free_term(out, place, x);
         right += term_len(x);
     }
@@ -108,36 +117,25 @@ fn follow(b: &[u8], other: usize, end: usize, out: &mut [u8], at: usize) -> usiz
 }
 
 // What an `e.` variable takes: up to the end that is known, or as the search says.
-fn absorb(
-    b: &[u8],
-    rest: usize,
-    other: usize,
-    swapped: bool,
-    fuel: u32,
-    out: &mut [u8],
-    at: usize,
-    next: usize,
-    known: usize,
-    room: &mut [u32],
-) -> Step
-    requires { Splits b.now rest other swapped fuel at × (length b.now ≤ 32768) × (fuel ≤ 4096) × Ahead b.now room.old next known rest other fuel × (next + 3 * known ≤ length room.old) }
-    ensures steps { (x : TermsAt Mode.pattern (drop rest b.now)) (y : TermsAt Mode.pattern (drop other b.now)) → Stepped b.now out.old at (rest + other) fuel (split_bytes swapped fuel x.terms y.terms) result out.new }
-    ensures keeps { Onwards b.now room.old (next + 3 * known) result × Kept (next + 3 * known) room.old room.new }
+fn absorb(b: &[u8], step: Step, out: &mut [u8], room: &mut [u32]) -> Step
+    requires { Splits b.now step.left step.right step.swapped step.fuel step.place × (length b.now ≤ 32768) × (step.fuel ≤ 4096) × Ahead b.now room.old step.ends.next step.ends.known step.left step.right step.fuel × (step.ends.next + 3 * step.ends.known ≤ length room.old) }
+    ensures steps { (x : TermsAt Mode.pattern (drop step.left b.now)) (y : TermsAt Mode.pattern (drop step.right b.now)) → Stepped b.now out.old step.place (step.left + step.right) step.fuel (split_bytes step.swapped step.fuel x.terms y.terms) result out.new }
+    ensures keeps { Onwards b.now room.old (step.ends.next + 3 * step.ends.known) result × Kept (step.ends.next + 3 * step.ends.known) room.old room.new }
 {
-    if known == 0 {
-        return ask(b, rest, other, swapped, fuel, out, at, next, room);
-    }
-    let end = place_in(room, next + 1);
-    let left = fuel_in(room, next + 2);
-    let place = follow(b, other, end, out, at);
+    let Some(end) = step.ends.first(room) else {
+        return ask(b, step, out, room);
+    };
+    let place = follow(b, step.right, end.other, out, step.place);
+    let ends = Ends {
+        next: step.ends.next + 3,
+        known: step.ends.known - 1,
+    };
     Step {
-        left: rest,
-        right: end,
-        swapped,
-        fuel: left,
+        right: end.other,
+        fuel: end.fuel,
         place,
-        next: next + 3,
-        known: known - 1,
+        ends,
+        ..step
     }
 }
 
@@ -147,141 +145,103 @@ fn put_head(out: &mut [u8], at: usize, s: &[u8], t: &[u8], swapped: bool) -> usi
     requires { Heads s.now t.now swapped at × (get_or s.now 0 0 ≡ 7 → get_or t.now 0 0 ≡ 7 → ⊥) }
     ensures { (x : HeadAt s.now) (y : HeadAt t.now) → Emitted out.old at (head_bytes swapped x.head y.head) result out.new }
 {
-    let m = s[0];
     let n = t[0];
-    if m == 7 {
-        if n == 5 {
-            return put_free_term(out, at, s);
-        }
-        return at;
+    match s[0] {
+        7 if n == 5 => put_free_term(out, at, s),
+        7 => at,
+        4.. => put_free_term(out, at, t),
+        _ if n == 7 => at,
+        _ if swapped && n < 4 => put_free_term(out, at, t),
+        _ => put_free_term(out, at, s),
     }
-    if 3 < m {
-        return put_free_term(out, at, t);
-    }
-    if n == 7 {
-        return at;
-    }
-    if swapped {
-        if n < 4 {
-            return put_free_term(out, at, t);
-        }
-    }
-    put_free_term(out, at, s)
 }
 
-// Two heads; what two brackets hold meets from a fresh fuel.
+// Two heads; what two brackets hold meets from a fresh fuel, behind the ends that are known.
 #[cycle(advance_meet_put_heads)]
-fn put_heads(
-    b: &[u8],
-    left: usize,
-    right: usize,
-    swapped: bool,
-    out: &mut [u8],
-    at: usize,
-    from: usize,
-    room: &mut [u32],
-) -> usize
-    requires { Heads (drop left b.now) (drop right b.now) swapped at × (length b.now ≤ 32768) × (from ≤ length room.old) }
-    ensures writes { (x : HeadAt (drop left b.now)) (y : HeadAt (drop right b.now)) → Emitted out.old at (head_bytes swapped x.head y.head) result out.new }
-    ensures keeps { Kept from room.old room.new }
+fn put_heads(b: &[u8], step: Step, out: &mut [u8], room: &mut [u32]) -> usize
+    requires { Heads (drop step.left b.now) (drop step.right b.now) step.swapped step.place × (length b.now ≤ 32768) × (step.ends.next + 3 * step.ends.known ≤ length room.old) }
+    ensures writes { (x : HeadAt (drop step.left b.now)) (y : HeadAt (drop step.right b.now)) → Emitted out.old step.place (head_bytes step.swapped x.head y.head) result out.new }
+    ensures keeps { Kept (step.ends.next + 3 * step.ends.known) room.old room.new }
 {
-    if b[left] == 7 {
-        if b[right] == 7 {
-            let inside = put_mark(out, at, 7);
-            let close = meet(
-                b,
-                left + 9,
-                right + 9,
-                swapped,
-                4096,
-                out,
-                inside,
-                from,
-                room,
-            );
+    if b[step.left] == 7 {
+        if b[step.right] == 7 {
+            let inside = Step {
+                left: step.left + 9,
+                right: step.right + 9,
+                fuel: 4096,
+                place: put_mark(out, step.place, 7),
+                ends: Ends {
+                    next: step.ends.next + 3 * step.ends.known,
+                    known: 0,
+                },
+                ..step
+            };
+            let close = meet(b, inside, out, room);
             return put_byte(out, close, 15);
         }
     }
-    put_head(out, at, &b[left..], &b[right..], swapped)
+    put_head(
+        out,
+        step.place,
+        &b[step.left..],
+        &b[step.right..],
+        step.swapped,
+    )
 }
 
 // One step: a split, or two heads. The fuel is what is left once the step has spent its 1.
 #[cycle(advance_meet_put_heads)]
-fn advance(
-    b: &[u8],
-    left: usize,
-    right: usize,
-    swapped: bool,
-    fuel: u32,
-    out: &mut [u8],
-    at: usize,
-    next: usize,
-    known: usize,
-    room: &mut [u32],
-) -> Step
-    requires { Meets b.now left right swapped (suc fuel) at × (get_or b.now left 0 ≡ 15 → ⊥) × (get_or b.now right 0 ≡ 15 → ⊥) × (length b.now ≤ 32768) × (fuel < 4096) × Way b.now (in_turn room.old next known []) (suc fuel) left right × (next + 3 * known ≤ length room.old) }
-    ensures steps { (x : TermsAt Mode.pattern (drop left b.now)) (y : TermsAt Mode.pattern (drop right b.now)) → Stepped b.now out.old at (left + right) fuel (meet_bytes swapped (suc fuel) x.terms y.terms) result out.new }
-    ensures keeps { Onwards b.now room.old (next + 3 * known) result × Kept (next + 3 * known) room.old room.new }
+fn advance(b: &[u8], step: Step, out: &mut [u8], room: &mut [u32]) -> Step
+    requires { Meets b.now step.left step.right step.swapped (suc step.fuel) step.place × (get_or b.now step.left 0 ≡ 15 → ⊥) × (get_or b.now step.right 0 ≡ 15 → ⊥) × (length b.now ≤ 32768) × (step.fuel < 4096) × Way b.now (in_turn room.old step.ends.next step.ends.known []) (suc step.fuel) step.left step.right × (step.ends.next + 3 * step.ends.known ≤ length room.old) }
+    ensures steps { (x : TermsAt Mode.pattern (drop step.left b.now)) (y : TermsAt Mode.pattern (drop step.right b.now)) → Stepped b.now out.old step.place (step.left + step.right) step.fuel (meet_bytes step.swapped (suc step.fuel) x.terms y.terms) result out.new }
+    ensures keeps { Onwards b.now room.old (step.ends.next + 3 * step.ends.known) result × Kept (step.ends.next + 3 * step.ends.known) room.old room.new }
 {
-    let i = left + term_len(&b[left..]);
-    let j = right + term_len(&b[right..]);
-    if b[left] == 6 {
-        return absorb(b, i, right, swapped, fuel, out, at, next, known, room);
+    let i = step.left + term_len(&b[step.left..]);
+    let j = step.right + term_len(&b[step.right..]);
+    if b[step.left] == 6 {
+        return absorb(b, Step { left: i, ..step }, out, room);
     }
-    if b[right] == 6 {
-        return absorb(b, j, left, !swapped, fuel, out, at, next, known, room);
+    if b[step.right] == 6 {
+        let other = Step {
+            left: j,
+            right: step.left,
+            swapped: !step.swapped,
+            ..step
+        };
+        return absorb(b, other, out, room);
     }
-    let place = put_heads(b, left, right, swapped, out, at, next + 3 * known, room);
+    let place = put_heads(b, step, out, room);
     Step {
         left: i,
         right: j,
-        swapped,
-        fuel,
         place,
-        next,
-        known,
+        ..step
     }
 }
 
-// What the patterns at two places meet in, from a fuel: step by step, until one of them is at its close.
+// What the patterns at two places meet in, from a fuel: step by step, until one of them is at its close. The ends are found first.
 #[cycle(advance_meet_put_heads)]
-pub fn meet(
-    b: &[u8],
-    left: usize,
-    right: usize,
-    swapped: bool,
-    fuel: u32,
-    out: &mut [u8],
-    at: usize,
-    from: usize,
-    room: &mut [u32],
-) -> usize
-    requires { Meets b.now left right swapped fuel at × (length b.now ≤ 32768) × (fuel ≤ 4096) × (from ≤ length room.old) }
-    ensures writes { (x : TermsAt Mode.pattern (drop left b.now)) (y : TermsAt Mode.pattern (drop right b.now)) → Emitted out.old at (meet_bytes swapped fuel x.terms y.terms) result out.new }
-    ensures keeps { Kept from room.old room.new }
+pub fn meet(b: &[u8], start: Step, out: &mut [u8], room: &mut [u32]) -> usize
+    requires { Meets b.now start.left start.right start.swapped start.fuel start.place × (length b.now ≤ 32768) × (start.fuel ≤ 4096) × (start.ends.next ≤ length room.old) }
+    ensures writes { (x : TermsAt Mode.pattern (drop start.left b.now)) (y : TermsAt Mode.pattern (drop start.right b.now)) → Emitted out.old start.place (meet_bytes start.swapped start.fuel x.terms y.terms) result out.new }
+    ensures keeps { Kept start.ends.next room.old room.new }
 {
-    let mut x = left;
-    let mut y = right;
-    let mut c = swapped;
-    let mut f = fuel;
-    let mut place = at;
-    let mut next = from;
-    let mut known = find_way(b, left, right, fuel, from, room);
-    while 0 < f {
-        if b[x] == 15 {
-            return place;
+    let next = start.ends.next;
+    let known = find_way(b, start.left, start.right, start.fuel, next, room);
+    let mut s = Step {
+        ends: Ends { next, known },
+        ..start
+    };
+    // The fuel does not run down by one: a split goes on with what its ends have left.
+    while 0 < s.fuel {
+        if b[s.left] == 15 {
+            return s.place;
         }
-        if b[y] == 15 {
-            return place;
+        if b[s.right] == 15 {
+            return s.place;
         }
-        let s = advance(b, x, y, c, f - 1, out, place, next, known, room);
-        x = s.left;
-        y = s.right;
-        c = s.swapped;
-        f = s.fuel;
-        place = s.place;
-        next = s.next;
-        known = s.known;
+        s.fuel -= 1;
+        s = advance(b, s, out, room);
     }
-    place
+    s.place
 }

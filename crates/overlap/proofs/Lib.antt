@@ -1,3 +1,4 @@
+pub mod Verdicts
 pub mod Turns
 pub mod Tries
 pub mod Ways

@@ -1,30 +1,48 @@
--- Answers of the cycle that are done, and those that are not.
+-- Answers of the cycle, and where there is none.
 use Prim.Native.Nat.{ℕ}
-use mathlib.Core.Path.{◌≡◌, sym, ap, ◌∙◌}
-use mathlib.Core.Bool.{Bool, true, false, true≢false}
+use mathlib.Core.Path.{◌≡◌, refl, sym, ap, ◌∙◌, subst}
+use mathlib.Core.Bool.{true≢false}
+use Rattle.std.specs.Prelude.{Option, None, Some, IsSome, is_some}
 use Rattle.patterns.specs.declared.Verdict.{Verdict}
 use Rattle.patterns.specs.declared.Found.{Found}
 use Rattle.patterns.specs.Search.{found}
-use Rattle.overlap.specs.Steps.{behind_verdict, behind, tried, found_of, Answers}
+use Rattle.overlap.specs.Steps.{behind, tried, behind_tried, Answers, Says}
+use Rattle.overlap.specs.declared.search.Limits.{Limits}
 use Rattle.overlap.specs.declared.search.Tried.{Tried}
 
-pub not_both : {b : Bool} {A : Type 0} → b ≡ true → b ≡ false → A
-not_both d e = absurd (true≢false (sym d ∙ e))
+-- A search that has ended has an answer, and so has one behind heads if that on the tails has.
+module _ {r : Option Tried} {v : Verdict} {f e : ℕ} (is : r ≡ Some (tried v f e)) where
+  pub ended-some : IsSome r
+  ended-some = ap is_some is
 
--- A search that has ended is done, and so is one behind heads if that on the tails is.
-module _ {r : Tried} {v : Verdict} {f e : ℕ} (is : r ≡ tried true v f e) where
-  pub ended-done : r.done ≡ true
-  ended-done = ap (λ (t : Tried). t.done) is
+  pub ended-verdict : {w : Verdict} → v ≡ w → Says r w
+  ended-verdict {w} e = subst (λ (s : Option Tried). Says s w) (sym is) e
 
-  pub ended-verdict : r.verdict ≡ v
-  ended-verdict = ap (λ (t : Tried). t.verdict) is
+  pub ended-answers : {q : Found} → found v f ≡ q → Answers r q
+  ended-answers {q} e = subst (λ (s : Option Tried). Answers s q) (sym is) e
 
-  pub ended-answers : Answers r (found v f)
-  ended-answers d = ap found_of is
+some-behind : (h : Verdict) (t : Option Tried) → IsSome t → IsSome (behind_tried h t)
+some-behind h None k = k
+some-behind h (Some x) k = refl
 
-module _ (h : Verdict) (t r : Tried) (is : r ≡ tried t.done (behind_verdict h t.verdict) t.fuel t.entries) where
-  pub behind-done : t.done ≡ true → r.done ≡ true
-  behind-done k = ap (λ (t : Tried). t.done) is ∙ k
+answers-behind : (h : Verdict) (t : Option Tried) (q : Found) → Answers t q → Answers (behind_tried h t) (behind h q)
+answers-behind h None q k = tt
+answers-behind h (Some x) q k = ap (behind h) k
 
-  pub behind-answers : (q : Found) → Answers t q → Answers r (behind h q)
-  behind-answers q k d = ap found_of is ∙ ap (behind h) (k (sym (ap (λ (t : Tried). t.done) is) ∙ d))
+module _ (h : Verdict) (t : Option Tried) {r : Option Tried} (is : r ≡ behind_tried h t) where
+  pub behind-some : IsSome t → IsSome r
+  behind-some k = ap is_some is ∙ some-behind h t k
+
+  pub behind-answers : (q w : Found) → Answers t q → behind h q ≡ w → Answers r w
+  behind-answers q w k e = subst (λ (z : Found). Answers r z) e (subst (λ (s : Option Tried). Answers s (behind h q)) (sym is) (answers-behind h t q k))
+
+-- What has an answer is not none.
+pub not_none : {A : Type 0} {T : Type 0} {r : Option T} → IsSome r → r ≡ None → A
+not_none k e = absurd (true≢false (sym k ∙ ap is_some e))
+
+pub not_stopped : {A : Type 0} {r : Option Limits} {l : Limits} → r ≡ Some l → r ≡ None → A
+not_stopped k e = not_none (ap is_some k) e
+
+-- Under no limit what is left inside is the same.
+pub still : {r : Option Limits} {k l : Limits} → r ≡ Some k → r ≡ Some l → l ≡ k
+still a b = cc

@@ -1,5 +1,5 @@
 -- The search one turn of its loops at a time: the invariant is that what is left answers as the whole.
-use Prim.Native.Nat.{ℕ, suc, ◌+◌, ◌-◌, ◌<◌, ◌≤◌}
+use Prim.Native.Nat.{ℕ, suc, ◌-◌, ◌<◌, ◌≤◌}
 use native.Mathlib.Omega.{arith}
 use mathlib.Core.Path.{◌≡◌, refl, sym, ap, ◌∙◌}
 use mathlib.Core.Bool.{true, false, true≢false}
@@ -14,24 +14,9 @@ use Rattle.patterns.specs.declared.Verdict.TheVariants.{Disjoint, Overlap, Unkno
 use Rattle.patterns.specs.declared.Found.{Found}
 use Rattle.patterns.specs.Search.{found, View, view, leftover_overlap, ends, after_split, splits_from, absorbing_split, overlap_of_terms, after_unknown, after_heads, sequence}
 use Rattle.overlap.specs.Steps.{is_overlap, is_disjoint, remembered, behind}
-use Rattle.patterns.proofs.Unfold.{no_fuel, absorbing-begins, one-begins, leftover_view, empty-first, empty-second, first_absorbs, second_absorbs, heads_compared}
+use Rattle.patterns.proofs.Unfold.{no_fuel, absorbing-begins, one-begins, empty-first, empty-second, first_absorbs, second_absorbs, heads_compared}
 use Rattle.patterns.proofs.Verdicts.{disjoint≢unknown}
-use Rattle.rows.proofs.Readings.{part, is-empty, is_not_empty, is-absorbing, one-head, rest_at, next-at}
-
--- The terms from i on can stand for nothing exactly if all of them can.
-pub record Leaving (s : List ℕ) (i : ℕ) (p : TermsAt Mode.pattern s) : Type 0 where
-  pub there : TermsAt Mode.pattern (part s i)
-  pub whole : leftover_overlap p.terms ≡ leftover_overlap there.terms
-
-module _ {s : List ℕ} {i : ℕ} {p : TermsAt Mode.pattern s} (r : Leaving s i p) where
-  pub leftover_next : get_or (part s i) 0 0 ≡ 6 → (n : ℕ) → Passes (part s i) n (put_terms (tail r.there.terms) r.there.rest) → Leaving s (i + n) p
-  leftover_next m n h = record { there = next-at s i r.there n h; whole = r.whole ∙ leftover_view r.there.terms (View.absorbing (tail r.there.terms)) (is-absorbing r.there m) }
-
-  pub leftover_all : get_or (part s i) 0 0 ≡ 15 → leftover_overlap p.terms ≡ Overlap
-  leftover_all m = r.whole ∙ leftover_view r.there.terms View.nothing (is-empty r.there m)
-
-  pub leftover_some : (get_or (part s i) 0 0 ≡ 15 → ⊥) → (get_or (part s i) 0 0 ≡ 6 → ⊥) → leftover_overlap p.terms ≡ Disjoint
-  leftover_some m n = let h = one-head r.there m n in r.whole ∙ leftover_view r.there.terms (View.one h.0 (tail r.there.terms)) h.1
+use Rattle.rows.proofs.Readings.{part, is-empty, is_not_empty, is-absorbing, one-head, rest_at}
 
 -- Verdicts behind verdicts.
 behind-apart : (h v : Verdict) (f : ℕ) (tails : ℕ → Found) → (h ≡ Disjoint → ⊥) → is_disjoint v ≡ true → behind h (after_heads v f tails) ≡ found Disjoint f

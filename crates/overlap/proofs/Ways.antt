@@ -26,7 +26,7 @@ use Rattle.rows.proofs.Readings.{part, inside, at_part, mark_in, is-empty, is_no
 use Rattle.rows.proofs.Heads.{BracketAt, head-room}
 use Rattle.overlap.specs.declared.way.Turn.{Turn}
 use Rattle.overlap.specs.Steps.{is_overlap}
-use Rattle.overlap.specs.Way.{End, Next, Fails, fails-none, fails_more, Way, way-any, way-heads, way-first, way-second, end_at, in_turn, Leads, Trail, trail-start, trail_open, Apart, Met, Failing, lead_of, Told, Turned, Goes, stop_at, go_on, split_at, Opened}
+use Rattle.overlap.specs.Way.{End, Next, Fails, fails-none, fails_more, Way, way-any, way-heads, way-first, way-second, end_at, in_turn, Leads, Trail, trail-start, trail_open, Apart, Met, Failing, lead_of, Told, Turned, Goes, GoesWith, height_of, split_at, Opened}
 use Rattle.overlap.proofs.Turns.{ends-first, ends_last, ends_more}
 
 -- ---- readings
@@ -339,52 +339,35 @@ module _ {b m : List ℕ} {from fuel p q n g : ℕ} (s : Failing b m from fuel p
 
 -- ---- after a turn
 
-module _ {b m : List ℕ} {from fuel p q : ℕ} (r : Turn) where
-  pub turned_on : (i j f n : ℕ) → r ≡ go_on i j f n → Trail b m from fuel p q n f i j → Turned b m from fuel p q r
-  turned_on i j f n e t = subst (λ (s : Turn). Turned b m from fuel p q s) (sym e) (λ u. t, λ u. absurd (true≢false u))
-
-  pub turned_met : (n : ℕ) → r ≡ stop_at n → Way b (in_turn m from n []) fuel p q → Turned b m from fuel p q r
-  turned_met n e w = subst (λ (s : Turn). Turned b m from fuel p q s) (sym e) (λ u. absurd (true≢false (sym u)), λ u. w)
-
-  pub turned_stop : r ≡ stop_at 0 → Turned b m from fuel p q r
-  unfolding in_turn
-  turned_stop e = turned_met 0 e way-any
-
-module _ (b : List ℕ) (r : Turn) where
-  pub goes_on : (i j f n : ℕ) → r ≡ go_on i j f n → TermsAt Mode.pattern (drop i b) → TermsAt Mode.pattern (drop j b)
-      → TermsAt Mode.pattern (drop r.left b) × TermsAt Mode.pattern (drop r.right b) × (r.fuel ≡ f)
-  goes_on i j f n e x y = (
-    moved b r.left i (ap (λ (s : Turn). s.left) e) x,
-    moved b r.right j (ap (λ (s : Turn). s.right) e) y,
-    ap (λ (s : Turn). s.fuel) e,
-  )
-
-  pub goes_not : {A : Type 0} (n : ℕ) → r ≡ stop_at n → r.going ≡ true → A
-  goes_not n e h = absurd (true≢false (sym h ∙ ap (λ (s : Turn). s.going) e))
+-- The fuel that was left is less.
+pub goes_less : (b : List ℕ) (f g : ℕ) (r : Turn) → g < f → GoesWith b g r → Goes b f r
+goes_less b f g (Turn.On s) l h = (h.0, omega (arith, h.1, l))
+goes_less b f g (Turn.Ended n) l h = tt
 
 -- A split was opened, or there was no room for it.
 module _ (b m new : List ℕ) (from n f i j rest other g : ℕ) (r : Turn) (s : Leads b f i j rest other g) (o : Opened m from n rest other g r new) where
   pub opened_turned : (fuel p q : ℕ) → Trail b m from fuel p q n f i j → Turned b new from fuel p q r
+  unfolding in_turn
   opened_turned fuel p q t =
       ⊎_elim {C = Turned b new from fuel p q r}
-      (λ c. turned_on r rest other g (n + 1) c.0
+      (λ c. subst (λ (u : Turn). Turned b new from fuel p q u) (sym c.0)
       (subst (λ (l : List ℕ). Trail b l from fuel p q (n + 1) g rest other) (sym c.1)
       (subst (λ (k : ℕ). Trail b (split_at m (from + 3 * n) rest other g) from fuel p q k g rest other) (omega arith) (trail_more rest other g c.2 t s))))
-      (λ c. turned_stop r c.0)
+      (λ c. subst (λ (u : Turn). Turned b new from fuel p q u) (sym c.0) way-any)
       o
 
-  pub opened_goes : r.going ≡ true → Goes b f r
-  opened_goes u =
+  pub opened_goes : Goes b f r
+  opened_goes =
       ⊎_elim {C = Goes b f r}
-      (λ c. let h = goes_on b r rest other g (n + 1) c.0 s.first s.second in record { first = h.0; second = h.1; less = omega (arith, h.2, s.less) })
-      (λ c. goes_not b r 0 c.0 u)
+      (λ c. subst (λ (u : Turn). Goes b f u) (sym c.0) (record { first = s.first; second = s.second }, s.less))
+      (λ c. subst (λ (u : Turn). Goes b f u) (sym c.0) tt)
       o
 
-  pub opened_fits : from + 3 * n ≤ length m → from + 3 * r.height ≤ length m
+  pub opened_fits : from + 3 * n ≤ length m → from + 3 * height_of r ≤ length m
   opened_fits l =
-      ⊎_elim {C = from + 3 * r.height ≤ length m}
-      (λ c. omega (arith, ap (λ (t : Turn). t.height) c.0, c.2))
-      (λ c. omega (arith, ap (λ (t : Turn). t.height) c.0, l))
+      ⊎_elim {C = from + 3 * height_of r ≤ length m}
+      (λ c. omega (arith, ap height_of c.0, c.2))
+      (λ c. omega (arith, ap height_of c.0, l))
       o
 
   pub opened_kept : Kept (from + 3 * n) m new

@@ -10,6 +10,7 @@ use Rattle.patterns.specs.declared.Verdict.TheVariants.{Disjoint, Overlap, Unkno
 use Rattle.patterns.specs.Search.{found, ends, splits_from, sequence}
 use Rattle.overlap.specs.Steps.{is_overlap}
 use Rattle.overlap.specs.declared.way.Lead.{Lead}
+use Rattle.overlap.specs.declared.way.Pair.{Pair}
 use Rattle.overlap.specs.declared.way.Turn.{Turn}
 
 -- An end of a split, and the fuel with which it is entered.
@@ -112,20 +113,28 @@ Told b f i j (Lead.Split o) = Leads b f i j o.rest o.other o.fuel
 
 -- After a turn of the search: it goes on, or the ends of its splits are a way.
 abbrev pub Turned : List ℕ → List ℕ → ℕ → ℕ → ℕ → ℕ → Turn → Type 0
-Turned b m from fuel p q r =
-    (r.going ≡ true → Trail b m from fuel p q r.height r.fuel r.left r.right) × (r.going ≡ false → Way b (in_turn m from r.height []) fuel p q)
+Turned b m from fuel p q (Turn.On s) = Trail b m from fuel p q s.height s.fuel s.left s.right
+Turned b m from fuel p q (Turn.Ended n) = Way b (in_turn m from n []) fuel p q
 
--- What it goes on with.
-pub record Goes (b : List ℕ) (fuel : ℕ) (r : Turn) : Type 0 where
-  pub first : TermsAt Mode.pattern (drop r.left b)
-  pub second : TermsAt Mode.pattern (drop r.right b)
-  pub less : r.fuel < fuel
+-- What it goes on with: patterns, and less fuel, or the fuel that was left.
+pub record Onto (b : List ℕ) (s : Pair) : Type 0 where
+  pub first : TermsAt Mode.pattern (drop s.left b)
+  pub second : TermsAt Mode.pattern (drop s.right b)
 
-abbrev pub stop_at : ℕ → Turn
-stop_at n = record { going = false; left = 0; right = 0; fuel = 0; height = n }
+abbrev pub Goes : List ℕ → ℕ → Turn → Type 0
+Goes b fuel (Turn.On s) = Onto b s × (s.fuel < fuel)
+Goes b fuel (Turn.Ended n) = Unit {0}
+
+abbrev pub GoesWith : List ℕ → ℕ → Turn → Type 0
+GoesWith b fuel (Turn.On s) = Onto b s × (s.fuel ≡ fuel)
+GoesWith b fuel (Turn.Ended n) = Unit {0}
+
+abbrev pub height_of : Turn → ℕ
+height_of (Turn.On s) = s.height
+height_of (Turn.Ended n) = n
 
 abbrev pub go_on : ℕ → ℕ → ℕ → ℕ → Turn
-go_on i j f n = record { going = true; left = i; right = j; fuel = f; height = n }
+go_on i j f n = Turn.On (record { left = i; right = j; fuel = f; height = n })
 
 -- A split at the entry t.
 abbrev pub split_at : List ℕ → ℕ → ℕ → ℕ → ℕ → List ℕ
@@ -134,4 +143,4 @@ split_at m t i j f = set (set (set m t i) (t + 1) j) (t + 2) f
 -- A split was opened at the top, or there was no room for it.
 abbrev pub Opened : List ℕ → ℕ → ℕ → ℕ → ℕ → ℕ → Turn → List ℕ → Type 0
 Opened m from n i j f r o =
-    ((r ≡ go_on i j f (n + 1)) × (o ≡ split_at m (from + 3 * n) i j f) × (from + 3 * n + 3 ≤ length m)) ⊎ ((r ≡ stop_at 0) × (o ≡ m))
+    ((r ≡ go_on i j f (n + 1)) × (o ≡ split_at m (from + 3 * n) i j f) × (from + 3 * n + 3 ≤ length m)) ⊎ ((r ≡ Turn.Ended 0) × (o ≡ m))

@@ -9,13 +9,14 @@ ghost use Rattle.std.specs.Prelude.{◌≡◌, ◌/◌, ◌%◌, ◌≤◌, leng
 ghost use Rattle.program.specs.Limits.{Mode};
 ghost use Rattle.image.specs.Parts.{TermsAt};
 ghost use Rattle.patterns.specs.declared.Verdict.{Verdict};
-ghost use Rattle.patterns.specs.Search.{literal_overlap, start, sequence, patterns_overlap};
+ghost use Rattle.patterns.specs.Search.{start, sequence, patterns_overlap};
 ghost use Rattle.rows.specs.Cells.{code_of, costing};
 ghost use Rattle.rows.specs.Rows.{Kept};
-ghost use Rattle.overlap.specs.Steps.{is_overlap, is_disjoint, remembered, behind_verdict};
+ghost use Rattle.overlap.specs.Steps.{remembered, behind_verdict};
 
 use patterns::{Found, Verdict};
 use rows::pair_cell;
+use search::UNLIMITED;
 
 // The fuel of each pair of sequences.
 const OVERLAP_FUEL: u32 = 4096;
@@ -28,33 +29,12 @@ const DEPTH: u32 = 12;
 
 const SHORT: usize = 128;
 
-pub fn is_overlap(v: Verdict) -> bool
-    ensures { result ≡ is_overlap v }
-{
-    match v {
-        Verdict::Disjoint => false,
-        Verdict::Overlap => true,
-        Verdict::Unknown => false,
-    }
-}
-
-pub fn is_disjoint(v: Verdict) -> bool
-    ensures { result ≡ is_disjoint v }
-{
-    match v {
-        Verdict::Disjoint => true,
-        Verdict::Overlap => false,
-        Verdict::Unknown => false,
-    }
-}
-
 // The verdict so far and then another: Unknown is remembered.
 fn remember(earlier: Verdict, v: Verdict) -> Verdict
     ensures { result ≡ remembered earlier v }
 {
     match v {
-        Verdict::Disjoint => earlier,
-        Verdict::Overlap => earlier,
+        Verdict::Disjoint | Verdict::Overlap => earlier,
         Verdict::Unknown => Verdict::Unknown,
     }
 }
@@ -63,24 +43,10 @@ fn remember(earlier: Verdict, v: Verdict) -> Verdict
 fn behind_verdict(heads: Verdict, v: Verdict) -> Verdict
     ensures { result ≡ behind_verdict heads v }
 {
-    match heads {
-        Verdict::Disjoint => Verdict::Disjoint,
-        Verdict::Overlap => v,
-        Verdict::Unknown => match v {
-            Verdict::Disjoint => Verdict::Disjoint,
-            Verdict::Overlap => Verdict::Unknown,
-            Verdict::Unknown => Verdict::Unknown,
-        },
-    }
-}
-
-fn literal_overlap(equal: bool) -> Verdict
-    ensures { result ≡ literal_overlap equal }
-{
-    if equal {
-        Verdict::Overlap
-    } else {
-        Verdict::Disjoint
+    match (heads, v) {
+        (Verdict::Overlap, _) => v,
+        (Verdict::Disjoint, _) | (_, Verdict::Disjoint) => Verdict::Disjoint,
+        (Verdict::Unknown, _) => Verdict::Unknown,
     }
 }
 
@@ -88,13 +54,11 @@ fn literal_overlap(equal: bool) -> Verdict
 fn verdict_of(n: u32) -> Verdict
     ensures { (v : Verdict) → n ≡ code_of v → result ≡ v }
 {
-    if n == 1 {
-        return Verdict::Disjoint;
+    match n {
+        1 => Verdict::Disjoint,
+        2 => Verdict::Overlap,
+        _ => Verdict::Unknown,
     }
-    if n == 2 {
-        return Verdict::Overlap;
-    }
-    Verdict::Unknown
 }
 
 // What a cell says of a search that is entered with this fuel.
@@ -131,24 +95,14 @@ pub fn overlap_behind(
 {
     let left = &b[p..];
     let right = &b[q..];
-    let tried = search::within_limits(left, right, fuel);
-    if tried.done {
-        let verdict = tried.verdict;
-        return Found {
-            verdict,
-            fuel: tried.fuel,
-        };
+    if let Some(tried) = search::within_limits(left, right, fuel) {
+        return tried.found;
     }
-    let cell = pair_cell(b, left, right, from, room);
-    if cell != 0 {
+    if let Some(cell) = pair_cell(b, left, right, from, room) {
         return told(cell, fuel);
     }
-    let whole = search::sequence(left, right, fuel, 0, 0, true);
-    let verdict = whole.verdict;
-    Found {
-        verdict,
-        fuel: whole.fuel,
-    }
+    let whole = search::sequence(left, right, fuel, UNLIMITED);
+    whole.unwrap().found
 }
 
 // The same in the whole room.

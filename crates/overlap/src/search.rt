@@ -1,174 +1,110 @@
 // The cycle: "sequence, split and term call one another on falling lengths". It has limits, so that a call ends soon and takes
-// little stack; where one is met the answer is not done, which is handed up at once. Only what can multiply is counted, the ends
+// little stack; where one is met there is no answer, which is handed up at once. Only what can multiply is counted, the ends
 // of splits and the bracket pairs: between two of them the heads go forward in both patterns, so that a search within a limit
 // compares at most so many heads as the limit times the shorter pattern.
-ghost use Rattle.std.specs.Prelude.{◌≡◌, true, false, ◌-◌, ◌≤◌, length};
+ghost use Rattle.std.specs.Prelude.{◌≡◌, ◌≤◌, length, Option, IsSome};
 ghost use Rattle.program.specs.Limits.{Mode};
 ghost use Rattle.image.specs.Parts.{TermsAt};
 ghost use Rattle.patterns.specs.Search.{absorbing_split, overlap_of_terms, sequence};
 ghost use Rattle.rows.specs.Parts.{HeadAt};
-ghost use Rattle.overlap.specs.Steps.{behind_verdict, tried, Answers, Says};
+ghost use Rattle.overlap.specs.Steps.{tried, behind_tried, Answers, Says, Endless};
 
-use crate::terms::{count_terms, leftover_overlap};
-use crate::{
-    DEPTH, ENTRIES, OVERLAP_FUEL, SHORT, behind_verdict, is_disjoint, is_overlap, literal_overlap,
-    remember,
-};
+use crate::terms::count_terms;
+use crate::{DEPTH, ENTRIES, OVERLAP_FUEL, SHORT, behind_verdict, remember};
 use image::part::term_len;
-use patterns::Verdict;
-use symbols::same_symbol;
+use patterns::{Found, Verdict};
+use rows::terms::{flat_verdict, leftover_overlap};
 
-// What was found, if it is done, and how many ends and bracket pairs may still be tried.
-#[derive(Clone, Copy)]
+// What the cycle may still use: so many ends of splits and bracket pairs in all, so many of them inside one another. No limit is a
+// depth that none has: an enum of the two goes through memory at each call, and took a fifth more instructions where fuel runs out.
+#[derive(Clone, Copy, Debug, PartialEq, Eq)]
+pub struct Limits {
+    pub entries: u32,
+    pub deep: u32,
+}
+
+// As much as it takes.
+pub const UNLIMITED: Limits = Limits {
+    entries: 0,
+    deep: u32::MAX,
+};
+
+impl Limits {
+    // What is left inside one more end or bracket pair, unless a limit is met.
+    fn inside(self) -> Option<Limits>
+        ensures { Endless self → result ≡ Some self }
+    {
+        match self {
+            Limits { deep: u32::MAX, .. } => Some(self),
+            Limits { entries: 0, .. } | Limits { deep: 0, .. } => None,
+            Limits { entries, deep } => Some(Limits {
+                entries: entries - 1,
+                deep: deep - 1,
+            }),
+        }
+    }
+}
+
+// What was found, and how many ends and bracket pairs may still be tried.
+#[derive(Clone, Copy, Debug, PartialEq, Eq)]
 pub struct Tried {
-    pub done: bool,
-    pub verdict: Verdict,
-    pub fuel: u32,
+    pub found: Found,
     pub entries: u32,
 }
 
-// A limit was met.
-fn stopped() -> Tried
-    ensures { result.done ≡ false }
-{
-    Tried {
-        done: false,
-        verdict: Verdict::Unknown,
-        fuel: 0,
-        entries: 0,
-    }
-}
-
-// Whether one of two limits is met; where `always` is set none is.
-fn is_met(entries: u32, deep: u32, always: bool) -> bool
-    ensures { always ≡ true → result ≡ false }
-{
-    if always {
-        return false;
-    }
-    if entries == 0 {
-        return true;
-    }
-    deep == 0
-}
-
-fn less(limit: u32) -> u32
-    ensures { result ≡ limit - 1 }
-{
-    if limit == 0 { 0 } else { limit - 1 }
-}
-
 // A search has ended.
-fn ended(verdict: Verdict, fuel: u32, entries: u32) -> Tried
-    ensures { result ≡ tried true verdict fuel entries }
+fn ended(verdict: Verdict, fuel: u32, entries: u32) -> Option<Tried>
+    ensures { result ≡ Some (tried verdict fuel entries) }
 {
-    Tried {
-        done: true,
-        verdict,
-        fuel,
-        entries,
-    }
+    let found = Found { verdict, fuel };
+    Some(Tried { found, entries })
 }
 
 // What was found on the tails, behind heads with a verdict.
-fn behind_heads(heads: Verdict, t: Tried) -> Tried
-    ensures { result ≡ tried t.done (behind_verdict heads t.verdict) t.fuel t.entries }
+fn behind_heads(heads: Verdict, tails: Option<Tried>) -> Option<Tried>
+    ensures { result ≡ behind_tried heads tails }
 {
-    let v = t.verdict;
-    let verdict = behind_verdict(heads, v);
-    Tried {
-        done: t.done,
-        verdict,
-        fuel: t.fuel,
-        entries: t.entries,
-    }
+    let t = tails?;
+    let verdict = behind_verdict(heads, t.found.verdict);
+    ended(verdict, t.found.fuel, t.entries)
 }
 
 // The verdict on two heads, neither an `e.` variable, by their marks. What two brackets hold has a fresh fuel.
 #[cycle(absorbing_split_overlap_of_terms_sequence)]
-fn overlap_of_terms<'a>(
-    left: &'a [u8],
-    right: &'a [u8],
-    entries: u32,
-    deep: u32,
-    always: bool,
-) -> Tried
+fn overlap_of_terms<'a>(left: &'a [u8], right: &'a [u8], limits: Limits) -> Option<Tried>
     requires { HeadAt left.now × HeadAt right.now }
     ensures answers { (x : HeadAt left.now) (y : HeadAt right.now) → Says result (overlap_of_terms sequence x.head y.head) }
-    ensures ends { always ≡ true → result.done ≡ true }
+    ensures ends { Endless limits → IsSome result }
 {
-    let m = left[0];
-    let n = right[0];
-    if m == 7 {
-        if n == 7 {
-            if is_met(entries, deep, always) {
-                return stopped();
-            }
-            return sequence(
-                &left[9..],
-                &right[9..],
-                OVERLAP_FUEL,
-                less(entries),
-                less(deep),
-                always,
-            );
-        }
-        if n < 5 {
-            return ended(Verdict::Disjoint, 0, entries);
-        }
-        return ended(Verdict::Overlap, 0, entries);
+    if left[0] == 7 && right[0] == 7 {
+        let inner = limits.inside()?;
+        return sequence(&left[9..], &right[9..], OVERLAP_FUEL, inner);
     }
-    if n == 7 {
-        if m < 5 {
-            return ended(Verdict::Disjoint, 0, entries);
-        }
-        return ended(Verdict::Overlap, 0, entries);
-    }
-    if 3 < m {
-        return ended(Verdict::Overlap, 0, entries);
-    }
-    if 3 < n {
-        return ended(Verdict::Overlap, 0, entries);
-    }
-    ended(literal_overlap(same_symbol(left, right)), 0, entries)
+    ended(flat_verdict(left, right), 0, limits.entries)
 }
 
 // An `e.` variable before `rest`, against `other`: every end of `other` is tried, the whole first.
 #[cycle(absorbing_split_overlap_of_terms_sequence)]
-fn absorbing_split<'a>(
-    rest: &'a [u8],
-    other: &'a [u8],
-    fuel: u32,
-    entries: u32,
-    deep: u32,
-    always: bool,
-) -> Tried
+fn absorbing_split<'a>(rest: &'a [u8], other: &'a [u8], fuel: u32, limits: Limits) -> Option<Tried>
     requires { TermsAt Mode.pattern rest.now × TermsAt Mode.pattern other.now }
     ensures answers { (x : TermsAt Mode.pattern rest.now) (y : TermsAt Mode.pattern other.now) → Answers result (absorbing_split sequence fuel x.terms y.terms) }
-    ensures ends { always ≡ true → result.done ≡ true }
+    ensures ends { Endless limits → IsSome result }
 {
-    let inner = less(deep);
     let mut x = other;
     let mut f = fuel;
-    let mut e = entries;
+    let mut left = limits;
     let mut verdict = Verdict::Disjoint;
     loop {
-        if is_met(e, deep, always) {
-            return stopped();
+        let inner = left.inside()?;
+        let t = sequence(rest, x, f, inner)?;
+        if t.found.verdict == Verdict::Overlap {
+            return Some(t);
         }
-        let t = sequence(rest, x, f, less(e), inner, always);
-        if !t.done {
-            return stopped();
-        }
-        let v = t.verdict;
-        if is_overlap(v) {
-            return t;
-        }
-        verdict = remember(verdict, v);
-        f = t.fuel;
-        e = t.entries;
+        verdict = remember(verdict, t.found.verdict);
+        f = t.found.fuel;
+        left.entries = t.entries;
         if x[0] == 15 {
-            return ended(verdict, f, e);
+            return ended(verdict, f, left.entries);
         }
         let k = term_len(x);
         x = &x[k..];
@@ -177,72 +113,67 @@ fn absorbing_split<'a>(
 
 // Two patterns: their heads in turn, until one is at its close or at an `e.` variable.
 #[cycle(absorbing_split_overlap_of_terms_sequence)]
-pub fn sequence<'a>(
-    left: &'a [u8],
-    right: &'a [u8],
-    fuel: u32,
-    entries: u32,
-    deep: u32,
-    always: bool,
-) -> Tried
+pub fn sequence<'a>(left: &'a [u8], right: &'a [u8], fuel: u32, limits: Limits) -> Option<Tried>
     requires { TermsAt Mode.pattern left.now × TermsAt Mode.pattern right.now }
     ensures answers { (x : TermsAt Mode.pattern left.now) (y : TermsAt Mode.pattern right.now) → Answers result (sequence fuel x.terms y.terms) }
-    ensures ends { always ≡ true → result.done ≡ true }
+    ensures ends { Endless limits → IsSome result }
 {
     let mut x = left;
     let mut y = right;
-    let mut f = fuel;
-    let mut e = entries;
+    let mut rest = limits;
     let mut heads = Verdict::Overlap;
-    while 0 < f {
-        f -= 1;
+    for f in (0..fuel).rev() {
         let m = x[0];
         let n = y[0];
         if m == 15 {
-            return behind_heads(heads, ended(leftover_overlap(y), f, e));
+            return behind_heads(heads, ended(leftover_overlap(y), f, rest.entries));
         }
         if n == 15 {
-            return behind_heads(heads, ended(leftover_overlap(x), f, e));
+            return behind_heads(heads, ended(leftover_overlap(x), f, rest.entries));
         }
         if m == 6 {
             let k = term_len(x);
-            return behind_heads(heads, absorbing_split(&x[k..], y, f, e, deep, always));
+            return behind_heads(heads, absorbing_split(&x[k..], y, f, rest));
         }
         if n == 6 {
             let l = term_len(y);
-            return behind_heads(heads, absorbing_split(&y[l..], x, f, e, deep, always));
+            return behind_heads(heads, absorbing_split(&y[l..], x, f, rest));
         }
-        let t = overlap_of_terms(x, y, e, deep, always);
-        let v = t.verdict;
-        if !t.done {
-            return stopped();
+        let t = overlap_of_terms(x, y, rest)?;
+        rest.entries = t.entries;
+        if t.found.verdict == Verdict::Disjoint {
+            return ended(Verdict::Disjoint, f, rest.entries);
         }
-        e = t.entries;
-        if is_disjoint(v) {
-            return ended(Verdict::Disjoint, f, e);
-        }
-        heads = remember(heads, v);
+        heads = remember(heads, t.found.verdict);
         let k = term_len(x);
         x = &x[k..];
         let l = term_len(y);
         y = &y[l..];
     }
-    ended(Verdict::Unknown, 0, e)
+    ended(Verdict::Unknown, 0, rest.entries)
 }
 
 // The search within limits: a few ends and bracket pairs, and of long patterns two for each of their terms. Their heads are then
 // at most four times the cells of the table that the rows would fill.
-pub fn within_limits<'a>(left: &'a [u8], right: &'a [u8], fuel: u32) -> Tried
+pub fn within_limits<'a>(left: &'a [u8], right: &'a [u8], fuel: u32) -> Option<Tried>
     requires { TermsAt Mode.pattern left.now × TermsAt Mode.pattern right.now × (length left.now ≤ 32768) × (length right.now ≤ 32768) }
     ensures { (x : TermsAt Mode.pattern left.now) (y : TermsAt Mode.pattern right.now) → Answers result (sequence fuel x.terms y.terms) }
 {
-    let few = sequence(left, right, fuel, ENTRIES, DEPTH, false);
-    if few.done {
-        return few;
+    let few = Limits {
+        entries: ENTRIES,
+        deep: DEPTH,
+    };
+    let tried = sequence(left, right, fuel, few);
+    if tried.is_some() {
+        return tried;
     }
     let terms = count_terms(left) + count_terms(right);
     if terms <= SHORT {
-        return few;
+        return None;
     }
-    sequence(left, right, fuel, 2 * (terms as u32), DEPTH, false)
+    let more = Limits {
+        entries: 2 * (terms as u32),
+        deep: DEPTH,
+    };
+    sequence(left, right, fuel, more)
 }

@@ -2,22 +2,21 @@
 // what follows the `e.` variable, the end in turn and its fuel. It looks for a success and nothing else: where a bracket pair is
 // Unknown, fuel runs out or the room is too short it finds no way. It makes the search's entries, 4,096 at most, and asks one
 // bracket pair at each at most.
-ghost use Rattle.std.specs.Prelude.{◌≡◌, true, false, [], ℕ, ◌+◌, ◌*◌, ◌<◌, ◌≤◌, length, get_or, drop};
+ghost use Rattle.std.specs.Prelude.{◌≡◌, [], ℕ, ◌+◌, ◌*◌, ◌<◌, ◌≤◌, length, get_or, drop};
 ghost use Rattle.program.specs.Limits.{Mode};
 ghost use Rattle.image.specs.Parts.{TermsAt};
 ghost use Rattle.patterns.specs.Search.{overlap_of_terms, sequence};
 ghost use Rattle.rows.specs.Parts.{HeadAt};
 ghost use Rattle.rows.specs.Rows.{Kept};
-ghost use Rattle.overlap.specs.Way.{Way, Trail, Trailing, Failing, Fallen, Told, Goes, Turned, in_turn, lead_of, stop_at, go_on, split_at, Opened};
+ghost use Rattle.overlap.specs.Way.{Way, Trail, Trailing, Failing, Fallen, Told, Goes, GoesWith, Turned, height_of, in_turn, lead_of, split_at, Opened};
 
-use crate::terms::leftover_overlap;
-use crate::{OVERLAP_FUEL, is_overlap, literal_overlap, overlap_behind};
+use crate::{OVERLAP_FUEL, overlap_behind};
 use image::part::term_len;
 use patterns::Verdict;
-use symbols::same_symbol;
+use rows::terms::{flat_verdict, leftover_overlap};
 
 // A split behind some heads: what follows its `e.` variable, what that takes from, and the fuel left.
-#[derive(Clone, Copy)]
+#[derive(Clone, Copy, Debug, PartialEq, Eq)]
 pub struct Opening {
     pub rest: usize,
     pub other: usize,
@@ -25,7 +24,7 @@ pub struct Opening {
 }
 
 // Where the heads of two patterns lead.
-#[derive(Clone, Copy)]
+#[derive(Clone, Copy, Debug, PartialEq, Eq)]
 pub enum Lead {
     Stuck,
     Met,
@@ -33,43 +32,20 @@ pub enum Lead {
     Split(Opening),
 }
 
-// The search after a turn: whether it goes on, the patterns in turn with their fuel, and how many splits are open.
-#[derive(Clone, Copy)]
-pub struct Turn {
-    pub going: bool,
+// Two patterns in turn with their fuel, and how many splits are open.
+#[derive(Clone, Copy, Debug, PartialEq, Eq)]
+pub struct Pair {
     pub left: usize,
     pub right: usize,
     pub fuel: u32,
     pub height: usize,
 }
 
-// The verdict on two heads that are not both brackets, by their marks. The cycle has the same tests in a function of its own, which
-// one caller alone keeps fast.
-fn flat_verdict<'a>(left: &'a [u8], right: &'a [u8]) -> Verdict
-    requires { HeadAt left.now × HeadAt right.now × (get_or left.now 0 0 ≡ 7 → get_or right.now 0 0 ≡ 7 → ⊥) }
-    ensures { (x : HeadAt left.now) (y : HeadAt right.now) → result ≡ overlap_of_terms sequence x.head y.head }
-{
-    let m = left[0];
-    let n = right[0];
-    if m == 7 {
-        if n < 5 {
-            return Verdict::Disjoint;
-        }
-        return Verdict::Overlap;
-    }
-    if n == 7 {
-        if m < 5 {
-            return Verdict::Disjoint;
-        }
-        return Verdict::Overlap;
-    }
-    if 3 < m {
-        return Verdict::Overlap;
-    }
-    if 3 < n {
-        return Verdict::Overlap;
-    }
-    literal_overlap(same_symbol(left, right))
+// Where a turn leads: the search goes on, or it has ended with so many splits on its way.
+#[derive(Clone, Copy, Debug, PartialEq, Eq)]
+pub enum Turn {
+    On(Pair),
+    Ended(usize),
 }
 
 // The verdict on the heads at two places. A bracket pair is asked in the room behind the stack.
@@ -78,11 +54,8 @@ fn heads_verdict(b: &[u8], i: usize, j: usize, from: usize, room: &mut [u32]) ->
     ensures answers { (x : HeadAt (drop i b.now)) (y : HeadAt (drop j b.now)) → result ≡ overlap_of_terms sequence x.head y.head }
     ensures keeps { Kept from room.old room.new }
 {
-    if b[i] == 7 {
-        if b[j] == 7 {
-            let found = overlap_behind(b, i + 9, j + 9, OVERLAP_FUEL, from, room);
-            return found.verdict;
-        }
+    if b[i] == 7 && b[j] == 7 {
+        return overlap_behind(b, i + 9, j + 9, OVERLAP_FUEL, from, room).verdict;
     }
     flat_verdict(&b[i..], &b[j..])
 }
@@ -106,9 +79,7 @@ fn walk_heads(b: &[u8], left: usize, right: usize, fuel: u32, from: usize, room:
 {
     let mut i = left;
     let mut j = right;
-    let mut f = fuel;
-    while 0 < f {
-        f -= 1;
+    for f in (0..fuel).rev() {
         let x = &b[i..];
         let y = &b[j..];
         let m = x[0];
@@ -136,7 +107,7 @@ fn walk_heads(b: &[u8], left: usize, right: usize, fuel: u32, from: usize, room:
             });
         }
         let v = heads_verdict(b, i, j, from, room);
-        if !is_overlap(v) {
+        if v != Verdict::Overlap {
             return lead_of(v, f);
         }
         i = k;
@@ -145,135 +116,94 @@ fn walk_heads(b: &[u8], left: usize, right: usize, fuel: u32, from: usize, room:
     Lead::Stuck
 }
 
-// The search ends, with so many splits on its way.
-fn stop(height: usize) -> Turn
-    ensures { result ≡ stop_at height }
+// The split that stands at the entry `at`.
+pub fn split_in(room: &[u32], at: usize) -> Opening
+    requires { at + 3 ≤ length room.now }
+    ensures { (result.rest ≡ get_or room.now at 0) × (result.other ≡ get_or room.now (at + 1) 0) × (result.fuel ≡ get_or room.now (at + 2) 0) }
 {
-    Turn {
-        going: false,
-        left: 0,
-        right: 0,
-        fuel: 0,
-        height,
+    Opening {
+        rest: room[at] as usize,
+        other: room[at + 1] as usize,
+        fuel: room[at + 2],
     }
-}
-
-// It goes on with these patterns.
-fn go_on(left: usize, right: usize, fuel: u32, height: usize) -> Turn
-    ensures { result ≡ go_on left right fuel height }
-{
-    Turn {
-        going: true,
-        left,
-        right,
-        fuel,
-        height,
-    }
-}
-
-// A place that stands in the room.
-pub fn place_in(room: &[u32], k: usize) -> usize
-    requires { k < length room.now }
-    ensures { result ≡ get_or room.now k 0 }
-{
-    wide(room[k])
-}
-
-// A fuel that stands there.
-pub fn fuel_in(room: &[u32], k: usize) -> u32
-    requires { k < length room.now }
-    ensures { result ≡ get_or room.now k 0 }
-{
-    room[k]
-}
-
-// An entry as a place; a call of its own asks for no bound.
-fn wide(n: u32) -> usize
-    ensures { result ≡ n }
-{
-    n as usize
 }
 
 // A split at the entry `at`.
-fn put_split(room: &mut [u32], at: usize, rest: usize, other: usize, fuel: u32)
-    requires { (rest ≤ 32768) × (other ≤ 32768) × (at + 3 ≤ length room.old) }
-    ensures { room.new ≡ split_at room.old at rest other fuel }
+fn put_split(room: &mut [u32], at: usize, split: Opening)
+    requires { (split.rest ≤ 32768) × (split.other ≤ 32768) × (at + 3 ≤ length room.old) }
+    ensures { room.new ≡ split_at room.old at split.rest split.other split.fuel }
 {
-    room[at] = rest as u32;
-    room[at + 1] = other as u32;
-    room[at + 2] = fuel;
+    room[at] = split.rest as u32;
+    room[at + 1] = split.other as u32;
+    room[at + 2] = split.fuel;
 }
 
 // One split more, if there is room for it.
-fn open_split(
-    rest: usize,
-    other: usize,
-    fuel: u32,
-    from: usize,
-    height: usize,
-    room: &mut [u32],
-) -> Turn
-    requires { (rest ≤ 32768) × (other ≤ 32768) × (from + 3 * height ≤ length room.old) }
-    ensures { Opened room.old from height rest other fuel result room.new }
+fn open_split(split: Opening, from: usize, height: usize, room: &mut [u32]) -> Turn
+    requires { (split.rest ≤ 32768) × (split.other ≤ 32768) × (from + 3 * height ≤ length room.old) }
+    ensures { Opened room.old from height split.rest split.other split.fuel result room.new }
 {
     let at = from + 3 * height;
     if room.len() < at + 3 {
-        return stop(0);
+        return Turn::Ended(0);
     }
-    put_split(room, at, rest, other, fuel);
-    go_on(rest, other, fuel, height + 1)
+    put_split(room, at, split);
+    Turn::On(Pair {
+        left: split.rest,
+        right: split.other,
+        fuel: split.fuel,
+        height: height + 1,
+    })
 }
 
 // The patterns in turn were Disjoint: the last split that has an end left goes on with that.
 fn next_end(b: &[u8], fuel: u32, from: usize, height: usize, room: &mut [u32]) -> Turn
     requires { Fallen b.now room.old from height fuel × (length b.now ≤ 32768) × (from + 3 * height ≤ length room.old) }
     ensures turns { (f p q : ℕ) → Failing b.now room.old from f p q height fuel → Turned b.now room.new from f p q result }
-    ensures goes { (result.going ≡ true → TermsAt Mode.pattern (drop result.left b.now) × TermsAt Mode.pattern (drop result.right b.now) × (result.fuel ≡ fuel)) × (result.height ≤ height) }
+    ensures goes { GoesWith b.now fuel result × (height_of result ≤ height) }
     ensures keeps { Kept from room.old room.new }
 {
-    let mut n = height;
-    while 0 < n {
-        let k = n - 1;
+    for k in (0..height).rev() {
         let at = from + 3 * k;
-        let other = place_in(room, at + 1);
-        let x = &b[other..];
+        let split = split_in(room, at);
+        let x = &b[split.other..];
         if x[0] != 15 {
-            let next = other + term_len(x);
-            let rest = place_in(room, at);
-            put_split(room, at, rest, next, fuel);
-            return go_on(rest, next, fuel, n);
+            let next = split.other + term_len(x);
+            let later = Opening {
+                other: next,
+                fuel,
+                ..split
+            };
+            put_split(room, at, later);
+            return Turn::On(Pair {
+                left: split.rest,
+                right: next,
+                fuel,
+                height: k + 1,
+            });
         }
-        n = k;
     }
-    stop(0)
+    Turn::Ended(0)
 }
 
 // The patterns in turn, up to the next split, success or failure.
-fn take_turn(
-    b: &[u8],
-    left: usize,
-    right: usize,
-    fuel: u32,
-    from: usize,
-    height: usize,
-    room: &mut [u32],
-) -> Turn
-    requires { TermsAt Mode.pattern (drop left b.now) × TermsAt Mode.pattern (drop right b.now) × (length b.now ≤ 32768) × (from + 3 * height ≤ length room.old) × Trailing b.now room.old from height fuel left right }
-    ensures turns { (f p q : ℕ) → Trail b.now room.old from f p q height fuel left right → Turned b.now room.new from f p q result }
-    ensures goes { (result.going ≡ true → Goes b.now fuel result) × (from + 3 * result.height ≤ length room.old) }
+fn take_turn(b: &[u8], pair: Pair, from: usize, room: &mut [u32]) -> Turn
+    requires { TermsAt Mode.pattern (drop pair.left b.now) × TermsAt Mode.pattern (drop pair.right b.now) × (length b.now ≤ 32768) × (from + 3 * pair.height ≤ length room.old) × Trailing b.now room.old from pair.height pair.fuel pair.left pair.right }
+    ensures turns { (f p q : ℕ) → Trail b.now room.old from f p q pair.height pair.fuel pair.left pair.right → Turned b.now room.new from f p q result }
+    ensures goes { Goes b.now pair.fuel result × (from + 3 * height_of result ≤ length room.old) }
     ensures keeps { Kept from room.old room.new }
 {
-    let h = walk_heads(b, left, right, fuel, from + 3 * height, room);
-    match h {
-        Lead::Stuck => stop(0),
-        Lead::Met => stop(height),
-        Lead::Apart(g) => next_end(b, g, from, height, room),
-        Lead::Split(o) => open_split(o.rest, o.other, o.fuel, from, height, room),
+    let behind = from + 3 * pair.height;
+    match walk_heads(b, pair.left, pair.right, pair.fuel, behind, room) {
+        Lead::Stuck => Turn::Ended(0),
+        Lead::Met => Turn::Ended(pair.height),
+        Lead::Apart(fuel) => next_end(b, fuel, from, pair.height, room),
+        Lead::Split(split) => open_split(split, from, pair.height, room),
     }
 }
 
-// How many splits are on the way to the first success on two patterns, 0 if none is found; their ends stand in the room from
-// `from` on.
+// How many splits are on the way to the first success on two patterns; their ends stand in the room from `from` on. It is 0 where no
+// way is found: a way of no splits is known nothing of, and each caller goes on as if it knew no end.
 pub fn find_way(
     b: &[u8],
     left: usize,
@@ -286,18 +216,16 @@ pub fn find_way(
     ensures finds { Way b.now (in_turn room.new from result []) fuel left right × (from + 3 * result ≤ length room.old) }
     ensures keeps { Kept from room.old room.new }
 {
-    let mut i = left;
-    let mut j = right;
-    let mut f = fuel;
-    let mut height: usize = 0;
+    let mut pair = Pair {
+        left,
+        right,
+        fuel,
+        height: 0,
+    };
     loop {
-        let t = take_turn(b, i, j, f, from, height, room);
-        height = t.height;
-        if !t.going {
-            return height;
+        match take_turn(b, pair, from, room) {
+            Turn::On(next) => pair = next,
+            Turn::Ended(height) => return height,
         }
-        i = t.left;
-        j = t.right;
-        f = t.fuel;
     }
 }

@@ -14,7 +14,7 @@ use Rattle.patterns.specs.Search.{View, view, leftover_overlap, size}
 use Rattle.patterns.proofs.Unfold.{leftover_view}
 use Rattle.rows.specs.Cells.{ends_of, low, high, both, ended_both, PairTold, SplitsTold}
 use Rattle.rows.specs.Rows.{read_at, listed_at, behind_terms, closing, Stands, Listed, Kept, Cells, Row, Lies, Beside, Above, Lists, RoomFor, RowRoom, TableRoom}
-use Rattle.rows.proofs.Words.{told-some, turned_told, closed_first, closed_second, ends-both, ends_row, ends_column, ends_corner}
+use Rattle.rows.proofs.Words.{turned_told, closed_first, closed_second, ends-both, ends_row, ends_column, ends_corner}
 use Rattle.rows.proofs.Sizes.{stands-size, listed-size, inside_size}
 use Rattle.rows.proofs.Places.{place-some, kept_same, kept_then, kept_less}
 use Rattle.rows.proofs.Lists.{closing-next, kept_set, first-listed, some-listed}
@@ -138,7 +138,7 @@ module _ {b m now : List ℕ} {ys n row j s t : ℕ} {y : Terms} (h : Lies b m y
   pub closing-stands : Stands b q (behind_terms (j - 1) y)
   closing-stands = in_turn_lem j q h.before r.kept h.listed l r.within e
 
-  pub closing-turn : (w u : ℕ) → w ≡ closing (get_or b q 0) s → u ≡ both (ends_of (low w) (low t)) (high w) → (new : List ℕ) → new ≡ words now (row + 2 * (j - 1)) w u → Closing b m new n row (j - 1) w u y
+  pub closing-turn : (w u : ℕ) → w ≡ closing (get_or b q 0) s → u ≡ both (ends_of (low w) (low t)) (ends_of (high w) 1) → (new : List ℕ) → new ≡ words now (row + 2 * (j - 1)) w u → Closing b m new n row (j - 1) w u y
   closing-turn w u d c new f =
       let k = closing-stands in
       let i : w ≡ ended_both (leftover_overlap (behind_terms (j - 1) y)) = d ∙ word_next y j q s l k r.word in
@@ -316,7 +316,7 @@ module _ {b m now : List ℕ} {xs a ys n row : ℕ} (h : Lists b m xs a ys n row
     tabling_size = stands-size (i - 1) (listed_at b m xs) tabling_stands
 
     -- The cells at the close: w of the pair, g of the splits.
-    module _ (w g : ℕ) (d : w ≡ closing (get_or b p 0) beneath) (f : g ≡ both (low w) (ends_of (high w) (high side))) where
+    module _ (w g : ℕ) (d : w ≡ closing (get_or b p 0) beneath) (f : g ≡ both (ends_of (low w) 1) (ends_of (high w) (high side))) where
       word-here : w ≡ ended_both (leftover_overlap u)
       word-here = d ∙ word_next (listed_at b m xs) i p beneath l tabling_stands r.word
 
@@ -363,40 +363,35 @@ module _ {b m now : List ℕ} {xs a ys n row : ℕ} (h : Lists b m xs a ys n row
 
 -- ---- two patterns listed one behind the other
 
--- x and y, from `from` and `at` on, with room for a row behind them: either may have it.
-pub record Both (b m : List ℕ) (from ys at row : ℕ) (x y : Terms) : Type 0 where
+-- x and y, n terms from `from` on and i from `at` on, with room for a row behind them: either may have it.
+pub record Both (b m : List ℕ) (from n at i : ℕ) (x y : Terms) : Type 0 where
   pub first-is : listed_at b m from ≡ x
   pub second_is : listed_at b m at ≡ y
-  pub lists : Lists b m from (ys - from) at (row - at) row
-  pub turned : Lists b m at (row - at) from (ys - from) row
+  pub lists : Lists b m from n at i (at + i)
+  pub turned : Lists b m at i from n (at + i)
 
-pub both-listed : {b old m : List ℕ} {from ys at row : ℕ} {x y : Terms} → length b ≤ 32768 → (from ≤ ys) × (ys ≤ length old) × Listed b old from (ys - from) x → Kept ys old m
-    → (at ≤ row) × (ys ≤ row) × (row ≤ length m) × Listed b m at (row - at) y → (view x ≡ View.nothing → ⊥) → (view y ≡ View.nothing → ⊥) → Both b m from ys at row x y
-both-listed {b} {old} {m} {from} {ys} {at} {row} {x} {y} f g k h d e =
-    let first : Listed b m from (ys - from) x = listed_kept (omega (arith, g.0)) k g.2 in
-    let a : 0 < ys - from = some-listed first d in
-    let n : 0 < row - at = some-listed h.3 e in
-    let i : listed_at b m from ≡ x = first-listed first a in
-    let j : listed_at b m at ≡ y = first-listed h.3 n in
-    let u : Listed b m from (ys - from) (listed_at b m from) = subst (λ (t : Terms). Listed b m from (ys - from) t) (sym i) first in
-    let v : Listed b m at (row - at) (listed_at b m at) = subst (λ (t : Terms). Listed b m at (row - at) t) (sym j) h.3 in
-    let o : from + (ys - from) ≤ row = omega (arith, g.0, h.1) in
-    let p : at + (row - at) ≤ row = omega (arith, h.0) in
+pub both-listed : {b old m : List ℕ} {from n at i : ℕ} {x y : Terms} → length b ≤ 32768 → Listed b old from n x → Kept (from + n) old m
+    → (at ≤ from + n) × (from + n ≤ at + i) × (at + i ≤ length m) × Listed b m at i y → (view x ≡ View.nothing → ⊥) → (view y ≡ View.nothing → ⊥) → Both b m from n at i x y
+both-listed {b} {old} {m} {from} {n} {at} {i} {x} {y} f g k h d e =
+    let first : Listed b m from n x = listed_kept (omega arith) k g in
+    let a : 0 < n = some-listed first d in
+    let c : 0 < i = some-listed h.3 e in
+    let j : listed_at b m from ≡ x = first-listed first a in
+    let l : listed_at b m at ≡ y = first-listed h.3 c in
+    let u : Listed b m from n (listed_at b m from) = subst (λ (t : Terms). Listed b m from n t) (sym j) first in
+    let v : Listed b m at i (listed_at b m at) = subst (λ (t : Terms). Listed b m at i t) (sym l) h.3 in
+    let o : at + i ≤ at + i = omega arith in
     record {
-      first-is = i;
-      second_is = j;
-      lists = record { few = f; first = u; second = v; some = (a, n); before = (o, p); within = h.2 };
-      turned = record { few = f; first = v; second = u; some = (n, a); before = (p, o); within = h.2 };
+      first-is = j;
+      second_is = l;
+      lists = record { few = f; first = u; second = v; some = (a, c); before = (h.1, o); within = h.2 };
+      turned = record { few = f; first = v; second = u; some = (c, a); before = (o, h.1); within = h.2 };
     }
 
-module _ {b m : List ℕ} {from ys at row : ℕ} {x y : Terms} (k : Both b m from ys at row x y) where
+module _ {b m : List ℕ} {from n at i : ℕ} {x y : Terms} (k : Both b m from n at i x y) where
   pub both_told : (w : ℕ) → PairTold (listed_at b m from) (listed_at b m at) w → PairTold x y w
   both_told w t = subst (λ (u : Terms). PairTold u y w) k.first-is (subst (λ (u : Terms). PairTold (listed_at b m from) u w) k.second_is t)
 
   -- In the other order.
-  pub both_turned : (w r : ℕ) → r ≡ both (high w) (low w) → ((w ≡ 0 → ⊥) → PairTold (listed_at b m at) (listed_at b m from) w) → (r ≡ 0 → ⊥) → PairTold x y r
-  both_turned w r e t n =
-      both_told r (subst (λ (u : ℕ). PairTold (listed_at b m from) (listed_at b m at) u) (sym e) (turned_told (t (λ z. n (e ∙ ap (λ (u : ℕ). both (high u) (low u)) z)))))
-
-  pub both_some : (w r : ℕ) → r ≡ both (high w) (low w) → ((w ≡ 0 → ⊥) → PairTold (listed_at b m at) (listed_at b m from) w) → (w ≡ 0 → ⊥) → r ≡ 0 → ⊥
-  both_some w r e t n z = told-some (turned_told (t n)) (sym e ∙ z)
+  pub both_turned : (w r : ℕ) → r ≡ both (high w) (low w) → PairTold (listed_at b m at) (listed_at b m from) w → PairTold x y r
+  both_turned w r e t = both_told r (subst (λ (u : ℕ). PairTold (listed_at b m from) (listed_at b m at) u) (sym e) (turned_told t))

@@ -1,28 +1,53 @@
 -- Two heads at places of a body, in both orders.
-use Prim.Native.Nat.{ℕ, ◌%◌, ◌<◌, ◌≤◌}
+use Prim.Native.Nat.{ℕ, ◌%◌, ◌<◌}
 use native.Mathlib.Omega.{arith}
 use mathlib.Core.Path.{◌≡◌, refl, sym, ap, ◌∙◌}
-use mathlib.Core.Bool.{Bool}
 use mathlib.Core.List.{List}
 use lib.ListN.{get_or}
 use Rattle.image.specs.Parts.{tail}
 use Rattle.patterns.specs.declared.Verdict.{Verdict}
-use Rattle.patterns.specs.declared.Verdict.TheVariants.{Disjoint, Overlap}
-use Rattle.patterns.specs.Symbols.{same_symbol}
 use Rattle.patterns.specs.Search.{One, View, view, literal_overlap, overlap_of_terms, sequence}
 use Rattle.patterns.proofs.Symbols.{same_symbol_sym}
 use Rattle.rows.specs.Parts.{HeadAt}
 use Rattle.rows.specs.Cells.{code_of, both, low, high}
 use Rattle.rows.specs.Rows.{read_at, Flat, HeadsTold}
-use Rattle.symbols.specs.Parts.{SymbolAt}
-use Rattle.rows.proofs.Readings.{part, mark_in, head_at}
-use Rattle.rows.proofs.Heads.{literal-at, first_bracket_low, first_bracket_high, second_bracket_low, second_bracket_high, first-variable, second-variable, two_literals}
+use Rattle.rows.proofs.Readings.{part, head_mark, mark_in, head_at}
+use Rattle.rows.proofs.Heads.{head-mark}
 use Rattle.rows.proofs.Cells.{code-low}
 use Rattle.rows.proofs.Words.{low-both, high-both}
 use Rattle.rows.proofs.Places.{reading_part}
 
 small-code : (v : Verdict) → code_of v % 4 ≡ code_of v
 small-code v = omega (arith, code-low v)
+
+-- Unless both are brackets, the verdict is the same in both orders.
+turned : (x y : One) → (head_mark x ≡ 7 → head_mark y ≡ 7 → ⊥) → overlap_of_terms sequence x y ≡ overlap_of_terms sequence y x
+unfolding overlap_of_terms
+turned (One.literal a) (One.literal b) h = ap literal_overlap (same_symbol_sym a b)
+turned (One.literal a) One.any-symbol h = refl
+turned (One.literal a) One.any_term h = refl
+turned (One.literal a) One.no-pattern h = refl
+turned (One.literal a) (One.brackets j) h = refl
+turned One.any-symbol (One.literal b) h = refl
+turned One.any-symbol One.any-symbol h = refl
+turned One.any-symbol One.any_term h = refl
+turned One.any-symbol One.no-pattern h = refl
+turned One.any-symbol (One.brackets j) h = refl
+turned One.any_term (One.literal b) h = refl
+turned One.any_term One.any-symbol h = refl
+turned One.any_term One.any_term h = refl
+turned One.any_term One.no-pattern h = refl
+turned One.any_term (One.brackets j) h = refl
+turned One.no-pattern (One.literal b) h = refl
+turned One.no-pattern One.any-symbol h = refl
+turned One.no-pattern One.any_term h = refl
+turned One.no-pattern One.no-pattern h = refl
+turned One.no-pattern (One.brackets j) h = refl
+turned (One.brackets i) (One.literal b) h = refl
+turned (One.brackets i) One.any-symbol h = refl
+turned (One.brackets i) One.any_term h = refl
+turned (One.brackets i) One.no-pattern h = refl
+turned (One.brackets i) (One.brackets j) h = absurd (h refl refl)
 
 module _ {b : List ℕ} {p q : ℕ} (k : Flat b p q) where
   -- The same verdict in both orders.
@@ -54,57 +79,17 @@ module _ {b : List ℕ} {p q : ℕ} (k : Flat b p q) where
   n : get_or (part b q) 0 0 ≡ get_or b q 0
   n = mark_in b q
 
-  pub bracket_then_low : get_or b p 0 ≡ 7 → get_or b q 0 < 5 → HeadsTold (read_at b p) (read_at b q) 65537
+  pub first-head : HeadAt (part b p)
+  first-head = head_at (reading_part k.first) (λ e. k.first_one.0 (sym m ∙ e)) (λ e. k.first_one.1 (sym m ∙ e))
+
+  pub second-head : HeadAt (part b q)
+  second-head = head_at (reading_part k.second) (λ e. k.second-one.0 (sym n ∙ e)) (λ e. k.second-one.1 (sym n ∙ e))
+
+  pub not-both : get_or (part b p) 0 0 ≡ 7 → get_or (part b q) 0 0 ≡ 7 → ⊥
+  not-both e g = k.apart (sym m ∙ e) (sym n ∙ g)
+
+  -- A verdict that is that of the heads, once in each order.
+  pub heads-told : (v : Verdict) → ((x : HeadAt (part b p)) (y : HeadAt (part b q)) → v ≡ overlap_of_terms sequence x.head y.head) → HeadsTold (read_at b p) (read_at b q) (both (code_of v) (code_of v))
   unfolding Alike
-  bracket_then_low e l = told Disjoint 65537 refl (λ x y. (first_bracket_low x y (m ∙ e) (omega (arith, n, l)), second_bracket_low y x (m ∙ e) (omega (arith, n, l))))
-
-  pub bracket_then_high : get_or b p 0 ≡ 7 → 5 ≤ get_or b q 0 → HeadsTold (read_at b p) (read_at b q) 131074
-  unfolding Alike
-  bracket_then_high e l = told Overlap 131074 refl (λ x y. (first_bracket_high x y (m ∙ e) (λ h. k.apart e (sym n ∙ h)) (omega (arith, n, l)), second_bracket_high y x (m ∙ e) (λ h. k.apart e (sym n ∙ h)) (omega (arith, n, l))))
-
-  pub low_then_bracket : get_or b q 0 ≡ 7 → get_or b p 0 < 5 → HeadsTold (read_at b p) (read_at b q) 65537
-  unfolding Alike
-  low_then_bracket e l = told Disjoint 65537 refl (λ x y. (second_bracket_low x y (n ∙ e) (omega (arith, m, l)), first_bracket_low y x (n ∙ e) (omega (arith, m, l))))
-
-  pub high_then_bracket : get_or b q 0 ≡ 7 → 5 ≤ get_or b p 0 → HeadsTold (read_at b p) (read_at b q) 131074
-  unfolding Alike
-  high_then_bracket e l = told Overlap 131074 refl (λ x y. (second_bracket_high x y (n ∙ e) (λ h. k.apart (sym m ∙ h) e) (omega (arith, m, l)), first_bracket_high y x (n ∙ e) (λ h. k.apart (sym m ∙ h) e) (omega (arith, m, l))))
-
-  module _ (f : get_or b p 0 ≡ 7 → ⊥) (g : get_or b q 0 ≡ 7 → ⊥) where
-    f' : get_or (part b p) 0 0 ≡ 7 → ⊥
-    f' e = f (sym m ∙ e)
-
-    g' : get_or (part b q) 0 0 ≡ 7 → ⊥
-    g' e = g (sym n ∙ e)
-
-    pub variable-first : 3 < get_or b p 0 → HeadsTold (read_at b p) (read_at b q) 131074
-    unfolding Alike
-    variable-first l = told Overlap 131074 refl (λ x y. (first-variable x y f' g' (omega (arith, m, l)), second-variable y x g' f' (omega (arith, m, l))))
-
-    pub variable-second : 3 < get_or b q 0 → HeadsTold (read_at b p) (read_at b q) 131074
-    unfolding Alike
-    variable-second l = told Overlap 131074 refl (λ x y. (second-variable x y f' g' (omega (arith, n, l)), first-variable y x g' f' (omega (arith, n, l))))
-
-  -- Two literals.
-  module _ (f : get_or b p 0 ≤ 3) (g : get_or b q 0 ≤ 3) where
-    f'' : get_or (part b p) 0 0 ≤ 3
-    f'' = omega (arith, m, f)
-
-    g'' : get_or (part b q) 0 0 ≤ 3
-    g'' = omega (arith, n, g)
-
-    pub first-symbol : SymbolAt (part b p)
-    first-symbol = (literal-at (head_at (reading_part k.first) (λ e. k.first_one.0 (sym m ∙ e)) (λ e. k.first_one.1 (sym m ∙ e))) f'').symbol
-
-    pub second-symbol : SymbolAt (part b q)
-    second-symbol = (literal-at (head_at (reading_part k.second) (λ e. k.second-one.0 (sym n ∙ e)) (λ e. k.second-one.1 (sym n ∙ e))) g'').symbol
-
-    pub literals : (r : Bool) → ((x : SymbolAt (part b p)) (y : SymbolAt (part b q)) → r ≡ same_symbol x.symbol y.symbol) → (w : ℕ) → w ≡ both (code_of (literal_overlap r)) (code_of (literal_overlap r)) → HeadsTold (read_at b p) (read_at b q) w
-    unfolding Alike
-    literals r h w i =
-        told (literal_overlap r) w i
-        (λ x y.
-        let u = literal-at x f'' in
-        let v = literal-at y g'' in
-        let e = h u.symbol v.symbol in
-        (two_literals x y u v ∙ ap literal_overlap (sym e), two_literals y x v u ∙ ap literal_overlap (same_symbol_sym _ _ ∙ sym e)))
+  heads-told v f =
+      told v (both (code_of v) (code_of v)) refl (λ x y. (sym (f x y), turned y.head x.head (λ e g. not-both (head-mark x ∙ g) (head-mark y ∙ e)) ∙ sym (f x y)))

@@ -47,7 +47,7 @@ module _ {s : List ℕ} (x : HeadAt s) where
   head_bytes_lem : HeadBytes s x.head
   head_bytes_lem = subst (ViewBytes s) x.is (view-bytes s x.pattern.rest x.pattern.terms 0 x.pattern.is x.pattern.valid)
 
-  head-mark : get_or s 0 0 ≡ head_mark x.head
+  pub head-mark : get_or s 0 0 ≡ head_mark x.head
   head-mark = pattern-mark x.pattern ∙ ap view_mark x.is
 
 mark-low : (s : List ℕ) (x : One) → HeadBytes s x → (head_mark x < 8) × (0 < head_mark x)

@@ -8,3 +8,4 @@ pub mod Flat
 pub mod Lists
 pub mod Filling
 pub mod Sizes
+pub mod Leaving

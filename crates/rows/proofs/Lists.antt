@@ -13,7 +13,7 @@ use Rattle.program.specs.Limits.{Mode}
 use Rattle.image.specs.Parts.{Passes, TermsAt, tail}
 use Rattle.image.proofs.Readings.{result-at}
 use Rattle.program.specs.Syntax.{Terms}
-use Rattle.patterns.specs.declared.Verdict.TheVariants.{Disjoint, Overlap}
+use Rattle.patterns.specs.declared.Verdict.TheVariants.{Disjoint}
 use Rattle.patterns.specs.Search.{View, view, leftover_overlap}
 use Rattle.patterns.proofs.Unfold.{leftover_view}
 use Rattle.rows.specs.Cells.{ended_both}
@@ -29,9 +29,6 @@ module _ {b : List ℕ} {q : ℕ} (s : PatternFrom b q) where
 
   pub result-here : TermsAt Mode.result (part b q)
   result-here = result-at (reading_part s)
-
-  pub leftover_closed : get_or b q 0 ≡ 15 → leftover_overlap (read_at b q) ≡ Overlap
-  leftover_closed m = leftover_view (read_at b q) View.nothing (place-empty s m)
 
   pub leftover_absorbing : get_or b q 0 ≡ 6 → leftover_overlap (read_at b q) ≡ leftover_overlap (tail (read_at b q))
   leftover_absorbing m = leftover_view (read_at b q) (View.absorbing (tail (read_at b q))) (place-absorbing s m)

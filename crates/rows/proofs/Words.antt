@@ -1,8 +1,11 @@
 -- Cells of two sequences in both orders, by what the sequences begin with.
-use Prim.Native.Nat.{ℕ, ◌/◌, ◌%◌, ◌<◌}
+use Prim.Native.Nat.{ℕ, ◌+◌, ◌-◌, ◌/◌, ◌%◌, ◌<◌, ◌≤◌}
 use native.Mathlib.Omega.{arith}
 use mathlib.Core.Path.{◌≡◌, refl, sym, ap, ◌∙◌, subst}
+use mathlib.Core.Bool.{Bool, true, false, cond}
 use mathlib.Core.List.{List, [], ◌∷◌}
+use lib.Dec.{eqb, ltb}
+use borrow.Author.Tests.{ltb-false}
 use Rattle.program.specs.Syntax.{s_kind, t_kind, e_kind, Terms, nil, symbol, variable, bracket, call, block}
 use Rattle.image.specs.Parts.{tail}
 use Rattle.patterns.specs.declared.Verdict.{Verdict}
@@ -10,10 +13,10 @@ use Rattle.patterns.specs.declared.Verdict.TheVariants.{Disjoint, Overlap, Unkno
 use Rattle.patterns.specs.declared.Found.{Found}
 use Rattle.patterns.specs.Search.{found, One, View, view, leftover_overlap, ends, after_split, splits_from, absorbing_split, start, overlap_of_terms, sequence}
 use Rattle.patterns.proofs.Unfold.{no_fuel, absorbing-begins, one-begins, empty-first, empty-second, first_absorbs, second_absorbs, heads_compared}
-use Rattle.rows.specs.Cells.{code_of, Cell, spent, behind_of, ends_of, low, high, both, ended_both, PairTold, SplitsTold}
+use Rattle.rows.specs.Cells.{code_of, Cell, stopped, spent, behind_of, ends_of, low, high, both, ended_both, PairTold, SplitsTold}
 use Rattle.rows.specs.Rows.{HeadsTold}
 use Rattle.rows.proofs.Costs.{too_little, enough, either}
-use Rattle.rows.proofs.Cells.{code-low, spent_cell, ended_cell, behind_cell, ends_cell}
+use Rattle.rows.proofs.Cells.{spent_cell, ended_cell, behind_cell, ends_cell}
 
 -- A cell is below 65,536.
 small : {s : ℕ → Found} {n : ℕ} → Cell s n → n < 65536
@@ -39,13 +42,6 @@ splits-both {x} {y} {c} {d} k h = record {
 
 pub turned_told : {x y : Terms} {w : ℕ} → PairTold x y w → PairTold y x (both (high w) (low w))
 turned_told t = pair-both t.second t.first
-
--- A word that tells something is not 0.
-pub told-low : {x y : Terms} {w : ℕ} → PairTold x y w → low w ≡ 0 → ⊥
-told-low {x} {y} {w} t e = omega (arith, code-low t.first.verdict, t.first.code, e)
-
-pub told-some : {x y : Terms} {w : ℕ} → PairTold x y w → w ≡ 0 → ⊥
-told-some t e = told-low t (ap low e)
 
 -- One of the two is empty.
 module _ (x y : Terms) where
@@ -131,17 +127,33 @@ module _ (x y : Terms) where
   more-ends h {n} {m} k j =
       same_cell (λ f. absorbing_split sequence f x y) (λ f. ap (λ (l : List Terms). splits_from sequence x l Disjoint f) (ends_more y h)) (ends_cell x y (ends (tail y)) n m k j)
 
+-- No later ends, of no cost and Disjoint, change nothing.
+no-ends : {s : ℕ → Found} {n : ℕ} → Cell s n → ends_of n 1 ≡ n
+unfolding ends_of stopped
+no-ends {s} {n} c = let e : n + 1 - 1 ≡ n = omega arith in rw e (go (eqb (n % 4) 2) (ltb n 16388) refl)
+  where
+    last : (v : Verdict) → n % 4 ≡ code_of v → v ≡ Unknown → n % 4 ≡ 3
+    last v e u = e ∙ ap code_of u
+
+    go : (t u : Bool) → ltb n 16388 ≡ u → cond t n (cond u n 16391) ≡ n
+    go true u e = refl
+    go false true e = refl
+    go false false e =
+        let l : 16388 ≤ n = ltb-false n 16388 e in
+        let m : n % 4 ≡ 3 = last c.verdict c.code (c.out (omega (arith, l))) in
+        omega (arith, l, m, c.few)
+
 module _ {x y : Terms} {s : ℕ} (k : PairTold x y s) where
   pub ends-both : {right below : ℕ} → (view x ≡ View.nothing → ⊥) → (view y ≡ View.nothing → ⊥) → SplitsTold x (tail y) right → SplitsTold (tail x) y below
       → SplitsTold x y (both (ends_of (low s) (low right)) (ends_of (high s) (high below)))
   ends-both e h t u = splits-both (more-ends x y h k.first t.first) (more-ends y x e k.second u.second)
 
-  -- Against an empty first, or an empty second.
-  pub ends_row : {right : ℕ} → view x ≡ View.nothing → (view y ≡ View.nothing → ⊥) → SplitsTold x (tail y) right → SplitsTold x y (both (ends_of (low s) (low right)) (high s))
-  ends_row e h t = splits-both (more-ends x y h k.first t.first) (last_end y x e k.second)
+  -- Against an empty first, or an empty second: of the other there are no later ends.
+  pub ends_row : {right : ℕ} → view x ≡ View.nothing → (view y ≡ View.nothing → ⊥) → SplitsTold x (tail y) right → SplitsTold x y (both (ends_of (low s) (low right)) (ends_of (high s) 1))
+  ends_row e h t = splits-both (more-ends x y h k.first t.first) (subst (λ (n : ℕ). Cell (λ f. absorbing_split sequence f y x) n) (sym (no-ends k.second)) (last_end y x e k.second))
 
-  pub ends_column : {below : ℕ} → (view x ≡ View.nothing → ⊥) → view y ≡ View.nothing → SplitsTold (tail x) y below → SplitsTold x y (both (low s) (ends_of (high s) (high below)))
-  ends_column e h u = splits-both (last_end x y h k.first) (more-ends y x e k.second u.second)
+  pub ends_column : {below : ℕ} → (view x ≡ View.nothing → ⊥) → view y ≡ View.nothing → SplitsTold (tail x) y below → SplitsTold x y (both (ends_of (low s) 1) (ends_of (high s) (high below)))
+  ends_column e h u = splits-both (subst (λ (n : ℕ). Cell (λ f. absorbing_split sequence f x y) n) (sym (no-ends k.first)) (last_end x y h k.first)) (more-ends y x e k.second u.second)
 
   pub ends_corner : view x ≡ View.nothing → view y ≡ View.nothing → SplitsTold x y s
   ends_corner e h = record { first = last_end x y h k.first; second = last_end y x e k.second }

@@ -1,25 +1,44 @@
 // Terms of a body, by their places.
-ghost use Rattle.std.specs.Prelude.{◌≡◌, ◌+◌, ◌-◌, ◌≤◌, length, get_or};
-ghost use Rattle.patterns.specs.Search.{leftover_overlap, size};
+ghost use Rattle.std.specs.Prelude.{◌≡◌, ◌+◌, ◌≤◌, length, get_or, IfSome};
+ghost use Rattle.program.specs.Limits.{Mode};
+ghost use Rattle.image.specs.Parts.{TermsAt};
+ghost use Rattle.patterns.specs.Search.{leftover_overlap, literal_overlap, overlap_of_terms, sequence, size};
+ghost use Rattle.rows.specs.Parts.{HeadAt};
 ghost use Rattle.rows.specs.Cells.{ended_both};
 ghost use Rattle.rows.specs.Rows.{read_at, closing, PatternFrom, Flat, HeadsTold, Listed, Kept};
 
+use crate::numbers::{code_of, word_of};
 use image::part::term_len;
+use patterns::Verdict;
 use symbols::same_symbol;
 
-// Both orders of an empty pattern and the one at p: only `e.` variables can stand for nothing.
+// Whether the terms up to the close can stand for nothing: only `e.` variables can.
+pub fn leftover_overlap(s: &[u8]) -> Verdict
+    requires { TermsAt Mode.pattern s.now }
+    ensures { (p : TermsAt Mode.pattern s.now) → result ≡ leftover_overlap p.terms }
+{
+    let mut i: usize = 0;
+    loop {
+        let x = &s[i..];
+        let m = x[0];
+        if m == 15 {
+            return Verdict::Overlap;
+        }
+        if m != 6 {
+            return Verdict::Disjoint;
+        }
+        i += term_len(x);
+    }
+}
+
+// Both orders of an empty pattern and the one at p. Apart from its caller, whose frame stands once for each level of brackets.
+#[inline(never)]
 pub fn leftover(b: &[u8], p: usize) -> u32
     requires { PatternFrom b.now p }
     ensures { result ≡ ended_both (leftover_overlap (read_at b.now p)) }
 {
-    let mut q = p;
-    while b[q] == 6 {
-        q += term_len(&b[q..]);
-    }
-    if b[q] == 15 {
-        return 393222;
-    }
-    327685
+    let cell = 4 + code_of(leftover_overlap(&b[p..]));
+    word_of(cell, cell)
 }
 
 // The same from the word of the tail, behind a term with the mark m.
@@ -32,78 +51,93 @@ pub fn close_behind(m: u8, w: u32) -> u32
     327685
 }
 
-// The verdict on two heads that are not both brackets, in both orders.
+// The Rust's, with its flag.
+fn literal_overlap(equal: bool) -> Verdict
+    ensures { result ≡ literal_overlap equal }
+{
+    if equal {
+        Verdict::Overlap
+    } else {
+        Verdict::Disjoint
+    }
+}
+
+// The verdict on two heads that are not both brackets, by their marks. Three loops ask it at each of their turns, and a call of its
+// own took a sixtieth more instructions there.
+#[inline(always)]
+pub fn flat_verdict<'a>(left: &'a [u8], right: &'a [u8]) -> Verdict
+    requires { HeadAt left.now × HeadAt right.now × (get_or left.now 0 0 ≡ 7 → get_or right.now 0 0 ≡ 7 → ⊥) }
+    ensures { (x : HeadAt left.now) (y : HeadAt right.now) → result ≡ overlap_of_terms sequence x.head y.head }
+{
+    let m = left[0];
+    let n = right[0];
+    if m == 7 {
+        if n < 5 {
+            return Verdict::Disjoint;
+        }
+        return Verdict::Overlap;
+    }
+    if n == 7 {
+        if m < 5 {
+            return Verdict::Disjoint;
+        }
+        return Verdict::Overlap;
+    }
+    if 3 < m || 3 < n {
+        return Verdict::Overlap;
+    }
+    literal_overlap(same_symbol(left, right))
+}
+
+// The same in both orders.
 pub fn flat_heads(b: &[u8], p: usize, q: usize) -> u32
     requires { Flat b.now p q }
     ensures { HeadsTold (read_at b.now p) (read_at b.now q) result }
 {
-    let m = b[p];
-    let n = b[q];
-    if m == 7 {
-        if n < 5 {
-            return 65537;
-        }
-        return 131074;
-    }
-    if n == 7 {
-        if m < 5 {
-            return 65537;
-        }
-        return 131074;
-    }
-    if 3 < m {
-        return 131074;
-    }
-    if 3 < n {
-        return 131074;
-    }
-    if same_symbol(&b[p..], &b[q..]) {
-        return 131074;
-    }
-    65537
+    let cell = code_of(flat_verdict(&b[p..], &b[q..]));
+    word_of(cell, cell)
 }
 
-// Lists the places of the terms of the pattern at p, from the entry `at` on; the entry behind them, or 0 if there are too few.
-pub fn list_terms(b: &[u8], p: usize, at: usize, room: &mut [u32]) -> usize
+// Places of terms that are listed in the room: the first one's entry, and how many there are.
+#[derive(Clone, Copy, Debug, PartialEq, Eq)]
+pub struct Places {
+    pub at: usize,
+    pub count: usize,
+}
+
+// Lists the places of the terms of the pattern at p, from the entry `at` on, if there are enough.
+pub fn list_terms(b: &[u8], p: usize, at: usize, room: &mut [u32]) -> Option<Places>
     requires { PatternFrom b.now p × (length b.now ≤ 32768) }
-    ensures lists { (result ≡ 0 → ⊥) → (at ≤ result) × (result ≤ length room.new) × Listed b.now room.new at (result - at) (read_at b.now p) }
+    ensures lists { IfSome result (λ l. (l.at ≡ at) × (l.at + l.count ≤ length room.new) × Listed b.now room.new l.at l.count (read_at b.now p)) }
     ensures keeps { Kept at room.old room.new }
-    ensures suffices { (get_or b.now p 0 ≡ 15 → ⊥) → at + size (read_at b.now p) ≤ length room.old → result ≡ 0 → ⊥ }
+    ensures suffices { at + size (read_at b.now p) ≤ length room.old → result ≡ None → ⊥ }
 {
     if room.len() < at {
-        return 0;
+        return None;
     }
     let mut q = p;
     let mut k = at;
     while b[q] != 15 {
         if room.len() <= k {
-            return 0;
+            return None;
         }
         room[k] = q as u32;
         q += term_len(&b[q..]);
         k += 1;
     }
-    k
+    Some(Places { at, count: k - at })
 }
 
-// Where the list of a second pattern begins, and the entry behind both lists, or 0 if there are too few.
-#[derive(Clone, Copy)]
-pub struct Second {
-    pub at: usize,
-    pub row: usize,
-}
-
-// The list of the pattern at q behind that of the pattern at p, which stands from `from` up to `at`; if the two are one pattern,
-// that list serves for both, so that a sentence compared with itself takes no more than its own bytes pay for.
-pub fn list_second(b: &[u8], p: usize, q: usize, from: usize, at: usize, room: &mut [u32]) -> Second
-    requires { PatternFrom b.now q × (length b.now ≤ 32768) × (from ≤ at) × (at ≤ length room.old) × Listed b.now room.old from (at - from) (read_at b.now p) × (at ≡ 0 → ⊥) }
-    ensures lists { (result.row ≡ 0 → ⊥) → (result.at ≤ result.row) × (at ≤ result.row) × (result.row ≤ length room.new) × Listed b.now room.new result.at (result.row - result.at) (read_at b.now q) }
-    ensures keeps { Kept at room.old room.new × (result.at ≤ at) }
-    ensures suffices { (get_or b.now q 0 ≡ 15 → ⊥) → at + size (read_at b.now q) ≤ length room.old → result.row ≡ 0 → ⊥ }
+// The list of the pattern at q behind `first`, that of the pattern at p; if the two are one pattern, that list serves for both, so
+// that a sentence compared with itself takes no more than its own bytes pay for.
+pub fn list_second(b: &[u8], p: usize, q: usize, first: Places, room: &mut [u32]) -> Option<Places>
+    requires { PatternFrom b.now q × (length b.now ≤ 32768) × (first.at + first.count ≤ length room.old) × Listed b.now room.old first.at first.count (read_at b.now p) }
+    ensures lists { IfSome result (λ l. (l.at ≤ first.at + first.count) × (first.at + first.count ≤ l.at + l.count) × (l.at + l.count ≤ length room.new) × Listed b.now room.new l.at l.count (read_at b.now q)) }
+    ensures keeps { Kept (first.at + first.count) room.old room.new }
+    ensures suffices { first.at + first.count + size (read_at b.now q) ≤ length room.old → result ≡ None → ⊥ }
 {
     if p == q {
-        return Second { at: from, row: at };
+        return Some(first);
     }
-    let row = list_terms(b, q, at, room);
-    Second { at, row }
+    list_terms(b, q, first.at + first.count, room)
 }

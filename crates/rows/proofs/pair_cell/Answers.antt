@@ -1,7 +1,7 @@
 -- `rows::pair_cell` meets its contract: the first cell of the word at the places of the two tails.
 use Prim.Native.Nat.{ℕ}
 use native.Mathlib.Omega.{arith}
-use mathlib.Core.Path.{◌≡◌, sym, ap, ◌∙◌, subst}
+use mathlib.Core.Path.{◌≡◌, sym, ap, subst}
 use mathlib.Core.List.{List}
 use Rattle.program.specs.Syntax.{Terms}
 use Rattle.program.specs.Limits.{Mode}
@@ -12,7 +12,6 @@ use Rattle.rows.specs.Cells.{Cell, CellTold, low, PairTold}
 use Rattle.rows.specs.Rows.{read_at, PatternFrom}
 use Rattle.rows.proofs.Readings.{in_body}
 use Rattle.rows.proofs.Cells.{cell_told}
-use Rattle.rows.proofs.Words.{told-low}
 use Rattle.rows.proofs.Places.{read_is}
 use Rattle.rows.proofs.pair_cell.Goals as goal
 
@@ -31,18 +30,17 @@ first-told {b} {left} {right} u v w r e t x y =
 pub table_of-requires : goal.table_of-requires
 table_of-requires c = let s = c.requires in (from_tail s.0.tail s.0.pattern, from_tail s.1.tail s.1.pattern, s.2)
 
-pub shape_of-room : goal.shape_of-room
-shape_of-room c = c.table_of.ensures.keeps.length
+pub returns-in_err-word-clause-keeps : goal.returns-in_err-word-clause-keeps
+unfolding from_tail
+returns-in_err-word-clause-keeps c = let s = c.requires in let k = c.table_of.ensures.keeps in (
+  k.length,
+  k.below,
+  λ x y l z. c.table_of.ensures.suffices (omega (arith, l, ap size (read_is (from_tail s.0.tail x)), ap size (read_is (from_tail s.1.tail y)))) c.in_err-word.was,
+)
 
 pub returns : goal.returns
 unfolding from_tail
-returns c = let s = c.requires in let o = c.table_of in let e = c.low_of.ensures.0 in let k = o.ensures.keeps in record {
-  tells = λ n x y. first-told s.0.tail s.1.tail o.result c.low_of.result e (o.ensures.tells (λ z. n (e ∙ ap low z))) x y;
-  keeps = (
-    k.length,
-    k.below,
-    λ x y l z.
-        let n = o.ensures.suffices (omega (arith, l, ap size (read_is (from_tail s.0.tail x)), ap size (read_is (from_tail s.1.tail y)))) in
-        told-low (o.ensures.tells n) (sym e ∙ z),
-  );
+returns c = let s = c.requires in let k = c.table_of.ensures.keeps in record {
+  tells = λ x y. first-told s.0.tail s.1.tail c.in_ok-word.word c.low_of.result c.low_of.ensures.0 c.in_ok-word.ensures.tells x y;
+  keeps = (k.length, k.below, λ x y l z. cc);
 }

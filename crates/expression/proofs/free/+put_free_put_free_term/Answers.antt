@@ -52,34 +52,37 @@ pub put_free-term_len-i-requires : goal.put_free-term_len-i-requires
 put_free-term_len-i-requires t c = result-at ((c.loop-x.invariant.2 c.requires.pattern)).there
 
 pub put_free-overflow_add-i : goal.put_free-overflow_add-i
-put_free-overflow_add-i t c = omega (
-  arith,
-  ((let it : (c.loop-x.i + c.term_len-i.result ≤ length c.args.s.now) × (0 < c.term_len-i.result) = let x = ((c.loop-x.invariant.2 c.requires.pattern)).there in
-      let f = next_fits c.args.s.now c.loop-x.i x c.if-x-eq15.false c.loop-x.invariant.0 c.term_len-i.result (c.term_len-i.ensures Mode.pattern x) in
-      (f.0, f.1) in it)).0,
-)
+put_free-overflow_add-i t c =
+    let both : (c.loop-x.i + c.term_len-i.result ≤ length c.args.s.now) × (0 < c.term_len-i.result) = let x = ((c.loop-x.invariant.2 c.requires.pattern)).there in
+    let f = next_fits c.args.s.now c.loop-x.i x c.if-x-eq15.false c.loop-x.invariant.0 c.term_len-i.result (c.term_len-i.ensures Mode.pattern x) in
+    (f.0, f.1) in
+    omega (
+      arith,
+      both.0,
+    )
 
 pub put_free-loop-x-smaller : goal.put_free-loop-x-smaller
-put_free-loop-x-smaller t c = omega (
-  arith,
-  ((let it : (c.loop-x.i + c.term_len-i.result ≤ length c.args.s.now) × (0 < c.term_len-i.result) = let x = ((c.loop-x.invariant.2 c.requires.pattern)).there in
-      let f = next_fits c.args.s.now c.loop-x.i x c.if-x-eq15.false c.loop-x.invariant.0 c.term_len-i.result (c.term_len-i.ensures Mode.pattern x) in
-      (f.0, f.1) in it)).0,
-  ((let it : (c.loop-x.i + c.term_len-i.result ≤ length c.args.s.now) × (0 < c.term_len-i.result) = let x = ((c.loop-x.invariant.2 c.requires.pattern)).there in
-      let f = next_fits c.args.s.now c.loop-x.i x c.if-x-eq15.false c.loop-x.invariant.0 c.term_len-i.result (c.term_len-i.ensures Mode.pattern x) in
-      (f.0, f.1) in it)).1,
-)
+put_free-loop-x-smaller t c =
+    let both : (c.loop-x.i + c.term_len-i.result ≤ length c.args.s.now) × (0 < c.term_len-i.result) = let x = ((c.loop-x.invariant.2 c.requires.pattern)).there in
+    let f = next_fits c.args.s.now c.loop-x.i x c.if-x-eq15.false c.loop-x.invariant.0 c.term_len-i.result (c.term_len-i.ensures Mode.pattern x) in
+    (f.0, f.1) in
+    omega (
+      arith,
+      both.0,
+      both.1,
+    )
 
 pub put_free-loop-x-preserved : goal.put_free-loop-x-preserved
-put_free-loop-x-preserved t c = (
-  ((let it : (c.loop-x.i + c.term_len-i.result ≤ length c.args.s.now) × (0 < c.term_len-i.result) = let x = ((c.loop-x.invariant.2 c.requires.pattern)).there in
-      let f = next_fits c.args.s.now c.loop-x.i x c.if-x-eq15.false c.loop-x.invariant.0 c.term_len-i.result (c.term_len-i.ensures Mode.pattern x) in
-      (f.0, f.1) in it)).0,
-  c.put_free_term-place.auto.out ∙ c.loop-x.invariant.1,
-  λ y.
-      let w = c.loop-x.invariant.2 y in
-      freeing_next w c.term_len-i.result c.put_free_term-place.result c.put_free_term-place.new.out (c.term_len-i.ensures Mode.pattern w.there) (c.put_free_term-place.ensures w.there),
-)
+put_free-loop-x-preserved t c =
+    let both : (c.loop-x.i + c.term_len-i.result ≤ length c.args.s.now) × (0 < c.term_len-i.result) = let x = ((c.loop-x.invariant.2 c.requires.pattern)).there in
+    let f = next_fits c.args.s.now c.loop-x.i x c.if-x-eq15.false c.loop-x.invariant.0 c.term_len-i.result (c.term_len-i.ensures Mode.pattern x) in
+    (f.0, f.1) in (
+      both.0,
+      c.put_free_term-place.auto.out ∙ c.loop-x.invariant.1,
+      λ y.
+          let w = c.loop-x.invariant.2 y in
+          freeing_next w c.term_len-i.result c.put_free_term-place.result c.put_free_term-place.new.out (c.term_len-i.ensures Mode.pattern w.there) (c.put_free_term-place.ensures w.there),
+    )
 
 pub put_free_term-bounds-s-0 : goal.put_free_term-bounds-s-0
 put_free_term-bounds-s-0 t c = pattern-room c.requires.0.pattern
@@ -87,7 +90,7 @@ put_free_term-bounds-s-0 t c = pattern-room c.requires.0.pattern
 pub put_free_term-put_mark-inside-requires : goal.put_free_term-put_mark-inside-requires
 put_free_term-put_mark-inside-requires t c =
     let p = c.requires in
-    omega (arith, first_bracket_long p.0.pattern p.1 c.if-m-eq7.true, p.0.short)
+    omega (arith, first_bracket_long p.0.pattern p.1 c.in-7.is, p.0.short)
 
 pub put_free_term-slice_bounds-put_free-count : goal.put_free_term-slice_bounds-put_free-count
 put_free_term-slice_bounds-put_free-count t c = omega (arith, term_room c.requires.0.pattern c.requires.1)
@@ -106,8 +109,8 @@ put_free_term-put_free-close-requires t c =
     let r = term_room p.0.pattern p.1 in (
       omega (arith, c.decreases, l, r),
       record {
-        pattern = (first-bracket p.0.pattern p.1 c.if-m-eq7.true).inner;
-        short = omega (arith, c.put_mark-inside.ensures.after, first_bracket_long p.0.pattern p.1 c.if-m-eq7.true, p.0.short);
+        pattern = (first-bracket p.0.pattern p.1 c.in-7.is).inner;
+        short = omega (arith, c.put_mark-inside.ensures.after, first_bracket_long p.0.pattern p.1 c.in-7.is, p.0.short);
       },
     )
 
@@ -115,34 +118,34 @@ pub put_free_term-put_byte-requires : goal.put_free_term-put_byte-requires
 unfolding put_span put32
 put_free_term-put_byte-requires t c =
     let p = c.requires in
-    let x = first-bracket p.0.pattern p.1 c.if-m-eq7.true in
-    omega (arith, (c.put_free-close.ensures x.inner).after, c.put_mark-inside.ensures.after, first_bracket_long p.0.pattern p.1 c.if-m-eq7.true, p.0.short)
-
-pub put_free_term-returns-then-m-eq7 : goal.put_free_term-returns-then-m-eq7
-put_free_term-returns-then-m-eq7 t c = λ y.
-    let x = first-bracket y c.requires.1 c.if-m-eq7.true in
-    let i = free_bytes x.inner.terms in
-    emitted-same (first_bracket_bytes y c.requires.1 c.if-m-eq7.true)
-    (emitted-append (7 ∷ put_span zero_span []) (i ++ (15 ∷ [])) c.put_mark-inside.ensures (emitted-append i (15 ∷ []) (c.put_free-close.ensures x.inner) c.put_byte.ensures))
+    let x = first-bracket p.0.pattern p.1 c.in-7.is in
+    omega (arith, (c.put_free-close.ensures x.inner).after, c.put_mark-inside.ensures.after, first_bracket_long p.0.pattern p.1 c.in-7.is, p.0.short)
 
 pub put_free_term-put_symbol-requires : goal.put_free_term-put_symbol-requires
 put_free_term-put_symbol-requires t c =
     let p = c.requires in
-    let x = first-literal p.0.pattern p.1 c.if-m-lt4.true in
-    record { first = x.symbol; short = omega (arith, ap length (first_literal_bytes p.0.pattern p.1 c.if-m-lt4.true), p.0.short) }
-
-pub put_free_term-returns-then-m-lt4 : goal.put_free_term-returns-then-m-lt4
-put_free_term-returns-then-m-lt4 t c = λ y.
-    let x = first-literal y c.requires.1 c.if-m-lt4.true in
-    emitted-same (first_literal_bytes y c.requires.1 c.if-m-lt4.true) (c.put_symbol.ensures x.symbol)
-
-pub put_free_term-returns-then-m-eq6 : goal.put_free_term-returns-then-m-eq6
-put_free_term-returns-then-m-eq6 t c = λ y. emitted-same (sym (first-absorbing y c.if-m-eq6.true)) (emitted-nothing c.args.out.now c.args.at)
+    let x = first-literal p.0.pattern p.1 (omega arith) in
+    record { first = x.symbol; short = omega (arith, ap length (first_literal_bytes p.0.pattern p.1 (omega arith)), p.0.short) }
 
 pub put_free_term-put_letter-requires : goal.put_free_term-put_letter-requires
 put_free_term-put_letter-requires t c =
     let p = c.requires in
-    omega (arith, letter-long _ (first_variable_bytes p.0.pattern p.1 c.if-m-eq7.false (λ l. omega (arith, l, c.if-m-lt4.false)) c.if-m-eq6.false), p.0.short)
+    omega (arith, letter-long _ (first_variable_bytes p.0.pattern p.1 (λ e. omega (arith, e)) (λ l. omega (arith, l)) (λ e. omega (arith, e))), p.0.short)
 
-pub put_free_term-returns : goal.put_free_term-returns
-put_free_term-returns t c = λ y. emitted-same (first_variable_bytes y c.requires.1 c.if-m-eq7.false (λ l. omega (arith, l, c.if-m-lt4.false)) c.if-m-eq6.false) c.put_letter.ensures
+pub put_free_term-returns-in-7 : goal.put_free_term-returns-in-7
+put_free_term-returns-in-7 t c = λ y.
+    let x = first-bracket y c.requires.1 c.in-7.is in
+    let i = free_bytes x.inner.terms in
+    emitted-same (first_bracket_bytes y c.requires.1 c.in-7.is)
+    (emitted-append (7 ∷ put_span zero_span []) (i ++ (15 ∷ [])) c.put_mark-inside.ensures (emitted-append i (15 ∷ []) (c.put_free-close.ensures x.inner) c.put_byte.ensures))
+
+pub put_free_term-returns-in-6 : goal.put_free_term-returns-in-6
+put_free_term-returns-in-6 t c = λ y. emitted-same (sym (first-absorbing y c.in-6.is)) (emitted-nothing c.args.out.now c.args.at)
+
+pub put_free_term-returns-in-0-to-3 : goal.put_free_term-returns-in-0-to-3
+put_free_term-returns-in-0-to-3 t c = λ y.
+    let x = first-literal y c.requires.1 (omega arith) in
+    emitted-same (first_literal_bytes y c.requires.1 (omega arith)) (c.put_symbol.ensures x.symbol)
+
+pub put_free_term-returns-in_default : goal.put_free_term-returns-in_default
+put_free_term-returns-in_default t c = λ y. emitted-same (first_variable_bytes y c.requires.1 (λ e. omega (arith, e)) (λ l. omega (arith, l)) (λ e. omega (arith, e))) c.put_letter.ensures

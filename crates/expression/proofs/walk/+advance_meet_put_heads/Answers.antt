@@ -24,120 +24,122 @@ use Rattle.rows.proofs.Heads.{bracket-at}
 use Rattle.text.proofs.Fill.{emitted-same, emitted-append}
 use Rattle.expression.proofs.Heads.{both-brackets, both_brackets_long}
 use Rattle.expression.proofs.walk.+advance_meet_put_heads.Goals as goal
-use Rattle.expression.proofs.walk.+advance_meet_put_heads.Goals.{put_heads-then-b-left-eq7+else-b-right-eq7, put_heads-else-b-left-eq7}
+use Rattle.expression.proofs.walk.+advance_meet_put_heads.Goals.{put_heads-then-b-step-eq7+else-b-step-eq7-2, put_heads-else-b-step-eq7}
 
 one_less : (f : ℕ) → 0 < f → f ≡ suc (f - 1)
 one_less f h = omega arith
 
 pub advance-slice_bounds-term_len-count : goal.advance-slice_bounds-term_len-count
-advance-slice_bounds-term_len-count t c = omega (arith, inside c.args.b.now c.args.left c.requires.0.first)
+advance-slice_bounds-term_len-count t c = omega (arith, inside c.args.b.now c.args.step.left c.requires.0.first)
 
 pub advance-slice_bounds-term_len-start : goal.advance-slice_bounds-term_len-start
-advance-slice_bounds-term_len-start t c = omega (arith, inside c.args.b.now c.args.left c.requires.0.first)
+advance-slice_bounds-term_len-start t c = omega (arith, inside c.args.b.now c.args.step.left c.requires.0.first)
 
 pub advance-slice_bounds-term_len-end : goal.advance-slice_bounds-term_len-end
 advance-slice_bounds-term_len-end t c = omega arith
 
 pub advance-term_len-requires : goal.advance-term_len-requires
-advance-term_len-requires t c = result-at (at_part c.args.b.now c.args.left c.requires.0.first)
+advance-term_len-requires t c = result-at (at_part c.args.b.now c.args.step.left c.requires.0.first)
 
 pub advance-overflow_add-i : goal.advance-overflow_add-i
-advance-overflow_add-i t c = omega (
-  arith,
-  ((let it : (c.args.left + c.term_len.result ≤ length c.args.b.now) × (0 < c.term_len.result) = let b = c.args.b.now in
-      let x = at_part b c.args.left c.requires.0.first in
-      let f = next_fits b c.args.left x (λ e. c.requires.1 (sym (mark_in b c.args.left) ∙ e)) (omega (arith, inside b c.args.left c.requires.0.first)) c.term_len.result (c.term_len.ensures Mode.pattern x) in
-      (f.0, f.1) in it)).0,
-)
+advance-overflow_add-i t c =
+    let both : (c.args.step.left + c.term_len.result ≤ length c.args.b.now) × (0 < c.term_len.result) = let b = c.args.b.now in
+    let x = at_part b c.args.step.left c.requires.0.first in
+    let f = next_fits b c.args.step.left x (λ e. c.requires.1 (sym (mark_in b c.args.step.left) ∙ e)) (omega (arith, inside b c.args.step.left c.requires.0.first)) c.term_len.result (c.term_len.ensures Mode.pattern x) in
+    (f.0, f.1) in
+    omega (
+      arith,
+      both.0,
+    )
 
 pub advance-slice_bounds-term_len-count-2 : goal.advance-slice_bounds-term_len-count-2
-advance-slice_bounds-term_len-count-2 t c = omega (arith, inside c.args.b.now c.args.right c.requires.0.second)
+advance-slice_bounds-term_len-count-2 t c = omega (arith, inside c.args.b.now c.args.step.right c.requires.0.second)
 
 pub advance-slice_bounds-term_len-start-2 : goal.advance-slice_bounds-term_len-start-2
-advance-slice_bounds-term_len-start-2 t c = omega (arith, inside c.args.b.now c.args.right c.requires.0.second)
+advance-slice_bounds-term_len-start-2 t c = omega (arith, inside c.args.b.now c.args.step.right c.requires.0.second)
 
 pub advance-slice_bounds-term_len-end-2 : goal.advance-slice_bounds-term_len-end-2
 advance-slice_bounds-term_len-end-2 t c = omega arith
 
 pub advance-term_len-requires-2 : goal.advance-term_len-requires-2
-advance-term_len-requires-2 t c = result-at (at_part c.args.b.now c.args.right c.requires.0.second)
+advance-term_len-requires-2 t c = result-at (at_part c.args.b.now c.args.step.right c.requires.0.second)
 
 pub advance-overflow_add-j : goal.advance-overflow_add-j
-advance-overflow_add-j t c = omega (
-  arith,
-  ((let it : (c.args.right + c.term_len-2.result ≤ length c.args.b.now) × (0 < c.term_len-2.result) = let b = c.args.b.now in
-      let x = at_part b c.args.right c.requires.0.second in
-      let f = next_fits b c.args.right x (λ e. c.requires.2 (sym (mark_in b c.args.right) ∙ e)) (omega (arith, inside b c.args.right c.requires.0.second)) c.term_len-2.result (c.term_len-2.ensures Mode.pattern x) in
-      (f.0, f.1) in it)).0,
-)
+advance-overflow_add-j t c =
+    let both : (c.args.step.right + c.term_len-2.result ≤ length c.args.b.now) × (0 < c.term_len-2.result) = let b = c.args.b.now in
+    let x = at_part b c.args.step.right c.requires.0.second in
+    let f = next_fits b c.args.step.right x (λ e. c.requires.2 (sym (mark_in b c.args.step.right) ∙ e)) (omega (arith, inside b c.args.step.right c.requires.0.second)) c.term_len-2.result (c.term_len-2.ensures Mode.pattern x) in
+    (f.0, f.1) in
+    omega (
+      arith,
+      both.0,
+    )
 
-pub advance-bounds-b-left : goal.advance-bounds-b-left
-advance-bounds-b-left t c = omega (arith, inside c.args.b.now c.args.left c.requires.0.first)
+pub advance-bounds-b-step : goal.advance-bounds-b-step
+advance-bounds-b-step t c = omega (arith, inside c.args.b.now c.args.step.left c.requires.0.first)
 
 pub advance-absorb-requires : goal.advance-absorb-requires
 advance-absorb-requires t c =
+    let both : (c.args.step.left + c.term_len.result ≤ length c.args.b.now) × (0 < c.term_len.result) = let b = c.args.b.now in
+    let x = at_part b c.args.step.left c.requires.0.first in
+    let f = next_fits b c.args.step.left x (λ e. c.requires.1 (sym (mark_in b c.args.step.left) ∙ e)) (omega (arith, inside b c.args.step.left c.requires.0.first)) c.term_len.result (c.term_len.ensures Mode.pattern x) in
+    (f.0, f.1) in
+    let next : Next c.args.b.now c.args.step.left (c.args.step.left + c.term_len.result) = next_place c.args.b.now c.args.step.left c.term_len.result c.requires.0.first both.0 (c.term_len.ensures Mode.pattern (at_part c.args.b.now c.args.step.left c.requires.0.first)) in
     let b = c.args.b.now in
     let p = c.requires in
     let x = p.0.first in (
       record {
-        first = after_term b c.args.left c.term_len.result x (c.term_len.ensures Mode.pattern (at_part b c.args.left x));
+        first = after_term b c.args.step.left c.term_len.result x (c.term_len.ensures Mode.pattern (at_part b c.args.step.left x));
         second = p.0.second;
-        short = omega (arith, ap length (left-splits b c.args.left c.args.right c.args.swapped c.args.fuel x p.0.second c.if-b-left-eq6.true p.2), p.0.short);
+        short = omega (arith, ap length (left-splits b c.args.step.left c.args.step.right c.args.step.swapped c.args.step.fuel x p.0.second c.if-b-step-eq6.true p.2), p.0.short);
       },
       p.3,
       omega (arith, p.4),
-      ahead-first b c.args.room.now c.args.next c.args.known c.args.fuel c.args.left c.args.right _ p.5 c.if-b-left-eq6.true ((let it : Next c.args.b.now c.args.left (c.args.left + c.term_len.result) = next_place c.args.b.now c.args.left c.term_len.result c.requires.0.first ((let it : (c.args.left + c.term_len.result ≤ length c.args.b.now) × (0 < c.term_len.result) = let b = c.args.b.now in
-          let x = at_part b c.args.left c.requires.0.first in
-          let f = next_fits b c.args.left x (λ e. c.requires.1 (sym (mark_in b c.args.left) ∙ e)) (omega (arith, inside b c.args.left c.requires.0.first)) c.term_len.result (c.term_len.ensures Mode.pattern x) in
-          (f.0, f.1) in it)).0 (c.term_len.ensures Mode.pattern (at_part c.args.b.now c.args.left c.requires.0.first)) in it)),
+      ahead-first b c.args.room.now c.args.step.ends.next c.args.step.ends.known c.args.step.fuel c.args.step.left c.args.step.right _ p.5 c.if-b-step-eq6.true next,
       p.6,
     )
 
-pub advance-returns-then-b-left-eq6 : goal.advance-returns-then-b-left-eq6
-advance-returns-then-b-left-eq6 t c = record {
+pub advance-returns-then-b-step-eq6 : goal.advance-returns-then-b-step-eq6
+advance-returns-then-b-step-eq6 t c = record {
   steps = λ x y.
       let b = c.args.b.now in
-      let i = after_term b c.args.left c.term_len.result x (c.term_len.ensures Mode.pattern (at_part b c.args.left x)) in
-      stepped_as (left-splits b c.args.left c.args.right c.args.swapped c.args.fuel x y c.if-b-left-eq6.true c.requires.2) (omega arith) (c.absorb.ensures.steps i y);
+      let i = after_term b c.args.step.left c.term_len.result x (c.term_len.ensures Mode.pattern (at_part b c.args.step.left x)) in
+      stepped_as (left-splits b c.args.step.left c.args.step.right c.args.step.swapped c.args.step.fuel x y c.if-b-step-eq6.true c.requires.2) (omega arith) (c.absorb.ensures.steps i y);
   keeps = c.absorb.ensures.keeps;
 }
 
-pub advance-bounds-b-right : goal.advance-bounds-b-right
-advance-bounds-b-right t c = omega (arith, inside c.args.b.now c.args.right c.requires.0.second)
+pub advance-bounds-b-step-2 : goal.advance-bounds-b-step-2
+advance-bounds-b-step-2 t c = omega (arith, inside c.args.b.now c.args.step.right c.requires.0.second)
 
-pub advance-absorb-requires-then-b-right-eq6 : goal.advance-absorb-requires-then-b-right-eq6
-advance-absorb-requires-then-b-right-eq6 t c =
+pub advance-absorb-requires-then-b-step-eq6-2 : goal.advance-absorb-requires-then-b-step-eq6-2
+advance-absorb-requires-then-b-step-eq6-2 t c =
+    let both : (c.args.step.right + c.term_len-2.result ≤ length c.args.b.now) × (0 < c.term_len-2.result) = let b = c.args.b.now in
+    let x = at_part b c.args.step.right c.requires.0.second in
+    let f = next_fits b c.args.step.right x (λ e. c.requires.2 (sym (mark_in b c.args.step.right) ∙ e)) (omega (arith, inside b c.args.step.right c.requires.0.second)) c.term_len-2.result (c.term_len-2.ensures Mode.pattern x) in
+    (f.0, f.1) in
+    let next : Next c.args.b.now c.args.step.right (c.args.step.right + c.term_len-2.result) = next_place c.args.b.now c.args.step.right c.term_len-2.result c.requires.0.second both.0 (c.term_len-2.ensures Mode.pattern (at_part c.args.b.now c.args.step.right c.requires.0.second)) in
     let b = c.args.b.now in
     let p = c.requires in
     let y = p.0.second in (
       record {
-        first = after_term b c.args.right c.term_len-2.result y (c.term_len-2.ensures Mode.pattern (at_part b c.args.right y));
+        first = after_term b c.args.step.right c.term_len-2.result y (c.term_len-2.ensures Mode.pattern (at_part b c.args.step.right y));
         second = p.0.first;
-        short = omega (arith, ap length (right-splits b c.args.left c.args.right c.args.swapped c.args.fuel p.0.first y p.1 c.if-b-left-eq6.false c.if-b-right-eq6.true), p.0.short);
+        short = omega (arith, ap length (right-splits b c.args.step.left c.args.step.right c.args.step.swapped c.args.step.fuel p.0.first y p.1 c.if-b-step-eq6.false c.if-b-step-eq6-2.true), p.0.short);
       },
       p.3,
       omega (arith, p.4),
-      ahead-second b c.args.room.now c.args.next c.args.known c.args.fuel c.args.left c.args.right _ p.5 c.if-b-left-eq6.false c.if-b-right-eq6.true ((let it : Next c.args.b.now c.args.right (c.args.right + c.term_len-2.result) = next_place c.args.b.now c.args.right c.term_len-2.result c.requires.0.second ((let it : (c.args.right + c.term_len-2.result ≤ length c.args.b.now) × (0 < c.term_len-2.result) = let b = c.args.b.now in
-          let x = at_part b c.args.right c.requires.0.second in
-          let f = next_fits b c.args.right x (λ e. c.requires.2 (sym (mark_in b c.args.right) ∙ e)) (omega (arith, inside b c.args.right c.requires.0.second)) c.term_len-2.result (c.term_len-2.ensures Mode.pattern x) in
-          (f.0, f.1) in it)).0 (c.term_len-2.ensures Mode.pattern (at_part c.args.b.now c.args.right c.requires.0.second)) in it)),
+      ahead-second b c.args.room.now c.args.step.ends.next c.args.step.ends.known c.args.step.fuel c.args.step.left c.args.step.right _ p.5 c.if-b-step-eq6.false c.if-b-step-eq6-2.true next,
       p.6,
     )
 
-pub advance-returns-then-b-right-eq6 : goal.advance-returns-then-b-right-eq6
-advance-returns-then-b-right-eq6 t c = record {
+pub advance-returns-then-b-step-eq6-2 : goal.advance-returns-then-b-step-eq6-2
+advance-returns-then-b-step-eq6-2 t c = record {
   steps = λ x y.
       let b = c.args.b.now in
-      let j = after_term b c.args.right c.term_len-2.result y (c.term_len-2.ensures Mode.pattern (at_part b c.args.right y)) in
-      stepped_as (right-splits b c.args.left c.args.right c.args.swapped c.args.fuel x y c.requires.1 c.if-b-left-eq6.false c.if-b-right-eq6.true) (omega arith) (c.absorb-then-b-right-eq6.ensures.steps j x);
-  keeps = c.absorb-then-b-right-eq6.ensures.keeps;
+      let j = after_term b c.args.step.right c.term_len-2.result y (c.term_len-2.ensures Mode.pattern (at_part b c.args.step.right y)) in
+      stepped_as (right-splits b c.args.step.left c.args.step.right c.args.step.swapped c.args.step.fuel x y c.requires.1 c.if-b-step-eq6.false c.if-b-step-eq6-2.true) (omega arith) (c.absorb-then-b-step-eq6-2.ensures.steps j x);
+  keeps = c.absorb-then-b-step-eq6-2.ensures.keeps;
 }
-
-pub advance-overflow_mul-known : goal.advance-overflow_mul-known
-advance-overflow_mul-known t c = omega (arith, c.requires.6)
-
-pub advance-overflow_add-next : goal.advance-overflow_add-next
-advance-overflow_add-next t c = omega (arith, c.requires.6)
 
 pub advance-put_heads-place-requires : goal.advance-put_heads-place-requires
 advance-put_heads-place-requires t c =
@@ -145,14 +147,14 @@ advance-put_heads-place-requires t c =
     let p = c.requires in
     let x = p.0.first in
     let y = p.0.second in
-    let u = left-head b c.args.left c.args.right c.args.swapped c.args.fuel x y p.1 c.if-b-left-eq6.false in
-    let v = right-head b c.args.left c.args.right c.args.swapped c.args.fuel x y p.1 c.if-b-left-eq6.false p.2 c.if-b-right-eq6.false in (
+    let u = left-head b c.args.step.left c.args.step.right c.args.step.swapped c.args.step.fuel x y p.1 c.if-b-step-eq6.false in
+    let v = right-head b c.args.step.left c.args.step.right c.args.step.swapped c.args.step.fuel x y p.1 c.if-b-step-eq6.false p.2 c.if-b-step-eq6-2.false in (
       omega (arith, c.decreases),
       (
         record {
           first = u;
           second = v;
-          short = front_fits c.args.at (head_bytes c.args.swapped u.head v.head) (meet_bytes c.args.swapped c.args.fuel (tail x.terms) (tail y.terms)) (heads-first b c.args.left c.args.right c.args.swapped c.args.fuel x y p.1 c.if-b-left-eq6.false p.2 c.if-b-right-eq6.false) p.0.short;
+          short = front_fits c.args.step.place (head_bytes c.args.step.swapped u.head v.head) (meet_bytes c.args.step.swapped c.args.step.fuel (tail x.terms) (tail y.terms)) (heads-first b c.args.step.left c.args.step.right c.args.step.swapped c.args.step.fuel x y p.1 c.if-b-step-eq6.false p.2 c.if-b-step-eq6-2.false) p.0.short;
         },
         p.3,
         p.6,
@@ -160,163 +162,186 @@ advance-put_heads-place-requires t c =
     )
 
 pub advance-returns : goal.advance-returns
-advance-returns t c = record {
-  steps = λ x y.
-      let b = c.args.b.now in
-      let p = c.requires in
-      let u = left-head b c.args.left c.args.right c.args.swapped c.args.fuel x y p.1 c.if-b-left-eq6.false in
-      let v = right-head b c.args.left c.args.right c.args.swapped c.args.fuel x y p.1 c.if-b-left-eq6.false p.2 c.if-b-right-eq6.false in
-      record {
-        text = head_bytes c.args.swapped u.head v.head;
-        emitted = c.put_heads-place.ensures.writes u v;
-        first = after_term b c.args.left c.term_len.result x (c.term_len.ensures Mode.pattern (at_part b c.args.left x));
-        second = after_term b c.args.right c.term_len-2.result y (c.term_len-2.ensures Mode.pattern (at_part b c.args.right y));
-        is = heads-first b c.args.left c.args.right c.args.swapped c.args.fuel x y p.1 c.if-b-left-eq6.false p.2 c.if-b-right-eq6.false;
-        further = omega arith;
-        less = omega arith;
-      };
-  keeps = (
+advance-returns t c =
+    let both : (c.args.step.left + c.term_len.result ≤ length c.args.b.now) × (0 < c.term_len.result) = let b = c.args.b.now in
+    let x = at_part b c.args.step.left c.requires.0.first in
+    let f = next_fits b c.args.step.left x (λ e. c.requires.1 (sym (mark_in b c.args.step.left) ∙ e)) (omega (arith, inside b c.args.step.left c.requires.0.first)) c.term_len.result (c.term_len.ensures Mode.pattern x) in
+    (f.0, f.1) in
+    let next : Next c.args.b.now c.args.step.left (c.args.step.left + c.term_len.result) = next_place c.args.b.now c.args.step.left c.term_len.result c.requires.0.first both.0 (c.term_len.ensures Mode.pattern (at_part c.args.b.now c.args.step.left c.requires.0.first)) in
+    let both_2 : (c.args.step.right + c.term_len-2.result ≤ length c.args.b.now) × (0 < c.term_len-2.result) = let b = c.args.b.now in
+    let x = at_part b c.args.step.right c.requires.0.second in
+    let f = next_fits b c.args.step.right x (λ e. c.requires.2 (sym (mark_in b c.args.step.right) ∙ e)) (omega (arith, inside b c.args.step.right c.requires.0.second)) c.term_len-2.result (c.term_len-2.ensures Mode.pattern x) in
+    (f.0, f.1) in
+    let the_next : Next c.args.b.now c.args.step.right (c.args.step.right + c.term_len-2.result) = next_place c.args.b.now c.args.step.right c.term_len-2.result c.requires.0.second both_2.0 (c.term_len-2.ensures Mode.pattern (at_part c.args.b.now c.args.step.right c.requires.0.second)) in
     record {
-      way = way_at_heads c.args.fuel c.requires.5 refl c.if-b-left-eq6.false c.if-b-right-eq6.false ((let it : Next c.args.b.now c.args.left (c.args.left + c.term_len.result) = next_place c.args.b.now c.args.left c.term_len.result c.requires.0.first ((let it : (c.args.left + c.term_len.result ≤ length c.args.b.now) × (0 < c.term_len.result) = let b = c.args.b.now in
-          let x = at_part b c.args.left c.requires.0.first in
-          let f = next_fits b c.args.left x (λ e. c.requires.1 (sym (mark_in b c.args.left) ∙ e)) (omega (arith, inside b c.args.left c.requires.0.first)) c.term_len.result (c.term_len.ensures Mode.pattern x) in
-          (f.0, f.1) in it)).0 (c.term_len.ensures Mode.pattern (at_part c.args.b.now c.args.left c.requires.0.first)) in it)) ((let it : Next c.args.b.now c.args.right (c.args.right + c.term_len-2.result) = next_place c.args.b.now c.args.right c.term_len-2.result c.requires.0.second ((let it : (c.args.right + c.term_len-2.result ≤ length c.args.b.now) × (0 < c.term_len-2.result) = let b = c.args.b.now in
-          let x = at_part b c.args.right c.requires.0.second in
-          let f = next_fits b c.args.right x (λ e. c.requires.2 (sym (mark_in b c.args.right) ∙ e)) (omega (arith, inside b c.args.right c.requires.0.second)) c.term_len-2.result (c.term_len-2.ensures Mode.pattern x) in
-          (f.0, f.1) in it)).0 (c.term_len-2.ensures Mode.pattern (at_part c.args.b.now c.args.right c.requires.0.second)) in it));
-      is = refl;
-    },
-    c.put_heads-place.ensures.keeps,
-  );
-}
+      steps = λ x y.
+          let b = c.args.b.now in
+          let p = c.requires in
+          let u = left-head b c.args.step.left c.args.step.right c.args.step.swapped c.args.step.fuel x y p.1 c.if-b-step-eq6.false in
+          let v = right-head b c.args.step.left c.args.step.right c.args.step.swapped c.args.step.fuel x y p.1 c.if-b-step-eq6.false p.2 c.if-b-step-eq6-2.false in
+          record {
+            text = head_bytes c.args.step.swapped u.head v.head;
+            emitted = c.put_heads-place.ensures.writes u v;
+            first = after_term b c.args.step.left c.term_len.result x (c.term_len.ensures Mode.pattern (at_part b c.args.step.left x));
+            second = after_term b c.args.step.right c.term_len-2.result y (c.term_len-2.ensures Mode.pattern (at_part b c.args.step.right y));
+            is = heads-first b c.args.step.left c.args.step.right c.args.step.swapped c.args.step.fuel x y p.1 c.if-b-step-eq6.false p.2 c.if-b-step-eq6-2.false;
+            further = omega arith;
+            less = omega arith;
+          };
+      keeps = (
+        record {
+          way = way_at_heads c.args.step.fuel c.requires.5 refl c.if-b-step-eq6.false c.if-b-step-eq6-2.false next the_next;
+          is = refl;
+        },
+        c.put_heads-place.ensures.keeps,
+      );
+    }
 
 pub meet-find_way-known-requires : goal.meet-find_way-known-requires
 meet-find_way-known-requires t c = let p = c.requires in (p.0.first, p.0.second, p.1, p.3)
 
-pub meet-loop-f-init : goal.meet-loop-f-init
-meet-loop-f-init t c = (
+pub meet-loop-s-init : goal.meet-loop-s-init
+meet-loop-s-init t c = (
   refl,
-  kept_same c.args.from c.find_way-known.new.room,
+  kept_same c.args.start.ends.next c.find_way-known.new.room,
   c.find_way-known.ensures.finds.0,
   omega (arith, c.find_way-known.ensures.finds.1, c.find_way-known.ensures.keeps.length),
   omega arith,
-  λ p q. stepped_first c.args.b.now c.args.out.now c.args.at c.args.left c.args.right c.args.fuel c.args.from c.find_way-known.result c.args.swapped p q,
+  λ p q. stepped_first c.args.b.now c.args.out.now c.args.start.place c.args.start.left c.args.start.right c.args.start.fuel (record { next = c.args.start.ends.next; known = c.find_way-known.result }) c.args.start.swapped p q,
 )
 
-pub meet-bounds-b-x : goal.meet-bounds-b-x
-meet-bounds-b-x t c = inside c.args.b.now c.loop-f.x ((c.loop-f.invariant.5 c.requires.0.first c.requires.0.second)).first
+pub meet-bounds-b-s : goal.meet-bounds-b-s
+meet-bounds-b-s t c = inside c.args.b.now c.loop-s.s.left ((c.loop-s.invariant.5 c.requires.0.first c.requires.0.second)).first
 
-pub meet-shape_of-out-then-b-x-eq15 : goal.meet-shape_of-out-then-b-x-eq15
-meet-shape_of-out-then-b-x-eq15 t c = c.loop-f.invariant.0
+pub meet-shape_of-out-then-b-s-eq15 : goal.meet-shape_of-out-then-b-s-eq15
+meet-shape_of-out-then-b-s-eq15 t c = c.loop-s.invariant.0
 
-pub meet-shape_of-room-then-b-x-eq15 : goal.meet-shape_of-room-then-b-x-eq15
-meet-shape_of-room-then-b-x-eq15 t c = ((let it : Kept c.args.from c.args.room.now c.loop-f.room = kept_then c.find_way-known.ensures.keeps c.loop-f.invariant.1 in it)).length
+pub meet-shape_of-room-then-b-s-eq15 : goal.meet-shape_of-room-then-b-s-eq15
+meet-shape_of-room-then-b-s-eq15 t c =
+    let kept : Kept c.args.start.ends.next c.args.room.now c.loop-s.room = kept_then c.find_way-known.ensures.keeps c.loop-s.invariant.1 in
+    (kept).length
 
-pub meet-returns-then-b-x-eq15 : goal.meet-returns-then-b-x-eq15
-meet-returns-then-b-x-eq15 t c = record {
-  writes = λ p q.
-      let s = c.loop-f.invariant.5 p q in
-      let e = one_less c.loop-f.f c.loop-f-test.true in
-      whole-written s.text s.emitted s.is
-      (ap (λ (k : ℕ). meet_bytes c.loop-f.c k s.first.terms s.second.terms) e ∙ left_closed c.args.b.now c.loop-f.x c.loop-f.y c.loop-f.c (c.loop-f.f - 1) s.first s.second c.if-b-x-eq15.true);
-  keeps = (let it : Kept c.args.from c.args.room.now c.loop-f.room = kept_then c.find_way-known.ensures.keeps c.loop-f.invariant.1 in it);
-}
+pub meet-returns-then-b-s-eq15 : goal.meet-returns-then-b-s-eq15
+meet-returns-then-b-s-eq15 t c =
+    let kept : Kept c.args.start.ends.next c.args.room.now c.loop-s.room = kept_then c.find_way-known.ensures.keeps c.loop-s.invariant.1 in
+    record {
+      writes = λ p q.
+          let s = c.loop-s.invariant.5 p q in
+          let e = one_less c.loop-s.s.fuel c.loop-s-test.true in
+          whole-written s.text s.emitted s.is
+          (ap (λ (k : ℕ). meet_bytes c.loop-s.s.swapped k s.first.terms s.second.terms) e ∙ left_closed c.args.b.now c.loop-s.s.left c.loop-s.s.right c.loop-s.s.swapped (c.loop-s.s.fuel - 1) s.first s.second c.if-b-s-eq15.true);
+      keeps = kept;
+    }
 
-pub meet-bounds-b-y : goal.meet-bounds-b-y
-meet-bounds-b-y t c = inside c.args.b.now c.loop-f.y ((c.loop-f.invariant.5 c.requires.0.first c.requires.0.second)).second
+pub meet-bounds-b-s-in-loop-s : goal.meet-bounds-b-s-in-loop-s
+meet-bounds-b-s-in-loop-s t c = inside c.args.b.now c.loop-s.s.right ((c.loop-s.invariant.5 c.requires.0.first c.requires.0.second)).second
 
-pub meet-shape_of-out-then-b-y-eq15 : goal.meet-shape_of-out-then-b-y-eq15
-meet-shape_of-out-then-b-y-eq15 t c = c.loop-f.invariant.0
+pub meet-shape_of-out-then-b-s-eq15-2 : goal.meet-shape_of-out-then-b-s-eq15-2
+meet-shape_of-out-then-b-s-eq15-2 t c = c.loop-s.invariant.0
 
-pub meet-shape_of-room-then-b-y-eq15 : goal.meet-shape_of-room-then-b-y-eq15
-meet-shape_of-room-then-b-y-eq15 t c = ((let it : Kept c.args.from c.args.room.now c.loop-f.room = kept_then c.find_way-known.ensures.keeps c.loop-f.invariant.1 in it)).length
+pub meet-shape_of-room-then-b-s-eq15-2 : goal.meet-shape_of-room-then-b-s-eq15-2
+meet-shape_of-room-then-b-s-eq15-2 t c =
+    let kept : Kept c.args.start.ends.next c.args.room.now c.loop-s.room = kept_then c.find_way-known.ensures.keeps c.loop-s.invariant.1 in
+    (kept).length
 
-pub meet-returns-then-b-y-eq15 : goal.meet-returns-then-b-y-eq15
-meet-returns-then-b-y-eq15 t c = record {
-  writes = λ p q.
-      let s = c.loop-f.invariant.5 p q in
-      let e = one_less c.loop-f.f c.loop-f-test.true in
-      whole-written s.text s.emitted s.is
-      (ap (λ (k : ℕ). meet_bytes c.loop-f.c k s.first.terms s.second.terms) e ∙ right_closed c.args.b.now c.loop-f.x c.loop-f.y c.loop-f.c (c.loop-f.f - 1) s.first s.second c.if-b-y-eq15.true);
-  keeps = (let it : Kept c.args.from c.args.room.now c.loop-f.room = kept_then c.find_way-known.ensures.keeps c.loop-f.invariant.1 in it);
-}
+pub meet-returns-then-b-s-eq15-2 : goal.meet-returns-then-b-s-eq15-2
+meet-returns-then-b-s-eq15-2 t c =
+    let kept : Kept c.args.start.ends.next c.args.room.now c.loop-s.room = kept_then c.find_way-known.ensures.keeps c.loop-s.invariant.1 in
+    record {
+      writes = λ p q.
+          let s = c.loop-s.invariant.5 p q in
+          let e = one_less c.loop-s.s.fuel c.loop-s-test.true in
+          whole-written s.text s.emitted s.is
+          (ap (λ (k : ℕ). meet_bytes c.loop-s.s.swapped k s.first.terms s.second.terms) e ∙ right_closed c.args.b.now c.loop-s.s.left c.loop-s.s.right c.loop-s.s.swapped (c.loop-s.s.fuel - 1) s.first s.second c.if-b-s-eq15-2.true);
+      keeps = kept;
+    }
 
-pub meet-overflow_sub-f : goal.meet-overflow_sub-f
-meet-overflow_sub-f t c = omega (arith, c.loop-f-test.true)
+pub meet-overflow_sub-s : goal.meet-overflow_sub-s
+meet-overflow_sub-s t c = omega (arith, c.loop-s-test.true)
 
 pub meet-advance-s-requires : goal.meet-advance-s-requires
 meet-advance-s-requires t c =
     let b = c.args.b.now in
     let p = c.requires in
-    let s = (c.loop-f.invariant.5 c.requires.0.first c.requires.0.second) in
-    let e = one_less c.loop-f.f c.loop-f-test.true in (
-      omega (arith, c.decreases, s.further, inside b c.loop-f.x s.first, inside b c.loop-f.y s.second, inside b c.args.left p.0.first, inside b c.args.right p.0.second),
-      (record { first = s.first; second = s.second; short = stepped_short s e p.0.short }, c.if-b-x-eq15.false, c.if-b-y-eq15.false, p.1, omega (arith, s.less, p.2, c.loop-f-test.true), subst (λ (k : ℕ). Way b (in_turn c.loop-f.room c.loop-f.next c.loop-f.known []) k c.loop-f.x c.loop-f.y) e c.loop-f.invariant.2, c.loop-f.invariant.3),
+    let s = (c.loop-s.invariant.5 c.requires.0.first c.requires.0.second) in
+    let e = one_less c.loop-s.s.fuel c.loop-s-test.true in (
+      omega (arith, c.decreases, s.further, inside b c.loop-s.s.left s.first, inside b c.loop-s.s.right s.second, inside b c.args.start.left p.0.first, inside b c.args.start.right p.0.second),
+      (record { first = s.first; second = s.second; short = stepped_short s e p.0.short }, c.if-b-s-eq15.false, c.if-b-s-eq15-2.false, p.1, omega (arith, s.less, p.2, c.loop-s-test.true), subst (λ (k : ℕ). Way b (in_turn c.loop-s.room c.loop-s.s.ends.next c.loop-s.s.ends.known []) k c.loop-s.s.left c.loop-s.s.right) e c.loop-s.invariant.2, c.loop-s.invariant.3),
     )
 
-pub meet-loop-f-smaller : goal.meet-loop-f-smaller
-meet-loop-f-smaller t c =
-    let s = (c.loop-f.invariant.5 c.requires.0.first c.requires.0.second) in
-    omega (arith, (c.advance-s.ensures.steps s.first s.second).less, c.loop-f-test.true)
+pub meet-loop-s-smaller : goal.meet-loop-s-smaller
+meet-loop-s-smaller t c =
+    let s = (c.loop-s.invariant.5 c.requires.0.first c.requires.0.second) in
+    omega (arith, (c.advance-s.ensures.steps s.first s.second).less, c.loop-s-test.true)
 
-pub meet-loop-f-preserved : goal.meet-loop-f-preserved
-meet-loop-f-preserved t c =
+pub meet-loop-s-preserved : goal.meet-loop-s-preserved
+meet-loop-s-preserved t c =
     let k = c.advance-s.ensures.keeps.1 in
     let o = c.advance-s.ensures.keeps.0 in (
-      c.advance-s.auto.out ∙ c.loop-f.invariant.0,
-      kept_then c.loop-f.invariant.1 (kept_less c.loop-f.invariant.4 k),
-      subst (λ (es : List End). Way c.args.b.now es c.advance-s.result.fuel c.advance-s.result.left c.advance-s.result.right) (in_turn-kept c.advance-s.result.next c.advance-s.result.known [] k (omega (arith, o.is))) o.way,
-      omega (arith, o.is, c.loop-f.invariant.3, k.length),
-      omega (arith, o.is, c.loop-f.invariant.4),
-      λ p q. let s = c.loop-f.invariant.5 p q in stepped_on s (one_less c.loop-f.f c.loop-f-test.true) (c.advance-s.ensures.steps s.first s.second),
+      c.advance-s.auto.out ∙ c.loop-s.invariant.0,
+      kept_then c.loop-s.invariant.1 (kept_less c.loop-s.invariant.4 k),
+      subst (λ (es : List End). Way c.args.b.now es c.advance-s.result.fuel c.advance-s.result.left c.advance-s.result.right) (in_turn-kept c.advance-s.result.ends.next c.advance-s.result.ends.known [] k (omega (arith, o.is))) o.way,
+      omega (arith, o.is, c.loop-s.invariant.3, k.length),
+      omega (arith, o.is, c.loop-s.invariant.4),
+      λ p q. let s = c.loop-s.invariant.5 p q in stepped_on s (one_less c.loop-s.s.fuel c.loop-s-test.true) (c.advance-s.ensures.steps s.first s.second),
     )
 
 pub meet-shape_of-out : goal.meet-shape_of-out
-meet-shape_of-out t c = c.loop-f.invariant.0
+meet-shape_of-out t c = c.loop-s.invariant.0
 
 pub meet-shape_of-room : goal.meet-shape_of-room
-meet-shape_of-room t c = ((let it : Kept c.args.from c.args.room.now c.loop-f.room = kept_then c.find_way-known.ensures.keeps c.loop-f.invariant.1 in it)).length
+meet-shape_of-room t c =
+    let kept : Kept c.args.start.ends.next c.args.room.now c.loop-s.room = kept_then c.find_way-known.ensures.keeps c.loop-s.invariant.1 in
+    (kept).length
 
 pub meet-returns : goal.meet-returns
-meet-returns t c = record {
-  writes = λ p q.
-      let s = c.loop-f.invariant.5 p q in
-      let z : c.loop-f.f ≡ 0 = omega (arith, c.loop-f-test.false) in
-      whole-written s.text s.emitted s.is (ap (λ (k : ℕ). meet_bytes c.loop-f.c k s.first.terms s.second.terms) z ∙ meet-nothing c.loop-f.c s.first.terms s.second.terms);
-  keeps = (let it : Kept c.args.from c.args.room.now c.loop-f.room = kept_then c.find_way-known.ensures.keeps c.loop-f.invariant.1 in it);
-}
+meet-returns t c =
+    let kept : Kept c.args.start.ends.next c.args.room.now c.loop-s.room = kept_then c.find_way-known.ensures.keeps c.loop-s.invariant.1 in
+    record {
+      writes = λ p q.
+          let s = c.loop-s.invariant.5 p q in
+          let z : c.loop-s.s.fuel ≡ 0 = omega (arith, c.loop-s-test.false) in
+          whole-written s.text s.emitted s.is (ap (λ (k : ℕ). meet_bytes c.loop-s.s.swapped k s.first.terms s.second.terms) z ∙ meet-nothing c.loop-s.s.swapped s.first.terms s.second.terms);
+      keeps = kept;
+    }
 
-pub put_heads-bounds-b-left : goal.put_heads-bounds-b-left
-put_heads-bounds-b-left t c = omega (arith, head_inside c.args.b.now c.args.left c.requires.0.first)
+pub put_heads-bounds-b-step : goal.put_heads-bounds-b-step
+put_heads-bounds-b-step t c = omega (arith, head_inside c.args.b.now c.args.step.left c.requires.0.first)
 
-pub put_heads-bounds-b-right : goal.put_heads-bounds-b-right
-put_heads-bounds-b-right t c = omega (arith, head_inside c.args.b.now c.args.right c.requires.0.second)
+pub put_heads-bounds-b-step-then-b-step-eq7 : goal.put_heads-bounds-b-step-then-b-step-eq7
+put_heads-bounds-b-step-then-b-step-eq7 t c = omega (arith, head_inside c.args.b.now c.args.step.right c.requires.0.second)
 
-pub put_heads-put_mark-inside-requires : goal.put_heads-put_mark-inside-requires
-put_heads-put_mark-inside-requires t c =
+pub put_heads-put_mark-requires : goal.put_heads-put_mark-requires
+put_heads-put_mark-requires t c =
     let b = c.args.b.now in
     let p = c.requires.0 in
-    omega (arith, both_brackets_long c.args.swapped p.first p.second (bracket-at p.first (mark-at b c.args.left ∙ c.if-b-left-eq7.true)) (bracket-at p.second (mark-at b c.args.right ∙ c.if-b-right-eq7.true)), p.short)
+    omega (arith, both_brackets_long c.args.step.swapped p.first p.second (bracket-at p.first (mark-at b c.args.step.left ∙ c.if-b-step-eq7.true)) (bracket-at p.second (mark-at b c.args.step.right ∙ c.if-b-step-eq7-2.true)), p.short)
 
-pub put_heads-overflow_add-left : goal.put_heads-overflow_add-left
-put_heads-overflow_add-left t c = omega (arith, head_inside c.args.b.now c.args.left c.requires.0.first, c.requires.1)
+pub put_heads-overflow_add-inside-then-b-step-eq7-2 : goal.put_heads-overflow_add-inside-then-b-step-eq7-2
+put_heads-overflow_add-inside-then-b-step-eq7-2 t c = omega (arith, head_inside c.args.b.now c.args.step.left c.requires.0.first, head_inside c.args.b.now c.args.step.right c.requires.0.second, c.requires.1, c.requires.2)
 
-pub put_heads-overflow_add-right : goal.put_heads-overflow_add-right
-put_heads-overflow_add-right t c = omega (arith, head_inside c.args.b.now c.args.right c.requires.0.second, c.requires.1)
+pub put_heads-overflow_add-inside-then-b-step-eq7-2-2 : goal.put_heads-overflow_add-inside-then-b-step-eq7-2-2
+put_heads-overflow_add-inside-then-b-step-eq7-2-2 t c = omega (arith, head_inside c.args.b.now c.args.step.left c.requires.0.first, head_inside c.args.b.now c.args.step.right c.requires.0.second, c.requires.1, c.requires.2)
+
+pub put_heads-overflow_add-inside : goal.put_heads-overflow_add-inside
+put_heads-overflow_add-inside t c = omega (arith, head_inside c.args.b.now c.args.step.left c.requires.0.first, head_inside c.args.b.now c.args.step.right c.requires.0.second, c.requires.1, c.requires.2)
+
+pub put_heads-overflow_mul-inside : goal.put_heads-overflow_mul-inside
+put_heads-overflow_mul-inside t c = omega (arith, head_inside c.args.b.now c.args.step.left c.requires.0.first, head_inside c.args.b.now c.args.step.right c.requires.0.second, c.requires.1, c.requires.2)
 
 pub put_heads-meet-close-requires : goal.put_heads-meet-close-requires
 unfolding put_span put32
 put_heads-meet-close-requires t c =
     let b = c.args.b.now in
     let p = c.requires.0 in
-    let k = bracket-at p.first (mark-at b c.args.left ∙ c.if-b-left-eq7.true) in
-    let l = bracket-at p.second (mark-at b c.args.right ∙ c.if-b-right-eq7.true) in (
-      omega (arith, c.decreases, head_inside b c.args.left p.first, head_inside b c.args.right p.second),
+    let k = bracket-at p.first (mark-at b c.args.step.left ∙ c.if-b-step-eq7.true) in
+    let l = bracket-at p.second (mark-at b c.args.step.right ∙ c.if-b-step-eq7-2.true) in (
+      omega (arith, c.decreases, head_inside b c.args.step.left p.first, head_inside b c.args.step.right p.second),
       (
         record {
-          first = inner_at b c.args.left k;
-          second = inner_at b c.args.right l;
-          short = omega (arith, c.put_mark-inside.ensures.after, both_brackets_long c.args.swapped p.first p.second k l, p.short);
+          first = inner_at b c.args.step.left k;
+          second = inner_at b c.args.step.right l;
+          short = omega (arith, c.put_mark.ensures.after, both_brackets_long c.args.step.swapped p.first p.second k l, p.short);
         },
         c.requires.1,
         omega arith,
@@ -329,36 +354,36 @@ unfolding put_span put32
 put_heads-put_byte-requires t c =
     let b = c.args.b.now in
     let p = c.requires.0 in
-    let k = bracket-at p.first (mark-at b c.args.left ∙ c.if-b-left-eq7.true) in
-    let l = bracket-at p.second (mark-at b c.args.right ∙ c.if-b-right-eq7.true) in
-    omega (arith, (c.meet-close.ensures.writes (inner_at b c.args.left k) (inner_at b c.args.right l)).after, c.put_mark-inside.ensures.after, both_brackets_long c.args.swapped p.first p.second k l, p.short)
+    let k = bracket-at p.first (mark-at b c.args.step.left ∙ c.if-b-step-eq7.true) in
+    let l = bracket-at p.second (mark-at b c.args.step.right ∙ c.if-b-step-eq7-2.true) in
+    omega (arith, (c.meet-close.ensures.writes (inner_at b c.args.step.left k) (inner_at b c.args.step.right l)).after, c.put_mark.ensures.after, both_brackets_long c.args.step.swapped p.first p.second k l, p.short)
 
-pub put_heads-returns-then-b-right-eq7 : goal.put_heads-returns-then-b-right-eq7
-put_heads-returns-then-b-right-eq7 t c = record {
+pub put_heads-returns-then-b-step-eq7-2 : goal.put_heads-returns-then-b-step-eq7-2
+put_heads-returns-then-b-step-eq7-2 t c = record {
   writes = λ x y.
       let b = c.args.b.now in
-      let k = bracket-at x (mark-at b c.args.left ∙ c.if-b-left-eq7.true) in
-      let l = bracket-at y (mark-at b c.args.right ∙ c.if-b-right-eq7.true) in
-      let i = meet_bytes c.args.swapped start k.inner.terms l.inner.terms in
-      emitted-same (both-brackets c.args.swapped x y k l)
-      (emitted-append (7 ∷ put_span zero_span []) (i ++ (15 ∷ [])) c.put_mark-inside.ensures (emitted-append i (15 ∷ []) (c.meet-close.ensures.writes (inner_at b c.args.left k) (inner_at b c.args.right l)) c.put_byte.ensures));
+      let k = bracket-at x (mark-at b c.args.step.left ∙ c.if-b-step-eq7.true) in
+      let l = bracket-at y (mark-at b c.args.step.right ∙ c.if-b-step-eq7-2.true) in
+      let i = meet_bytes c.args.step.swapped start k.inner.terms l.inner.terms in
+      emitted-same (both-brackets c.args.step.swapped x y k l)
+      (emitted-append (7 ∷ put_span zero_span []) (i ++ (15 ∷ [])) c.put_mark.ensures (emitted-append i (15 ∷ []) (c.meet-close.ensures.writes (inner_at b c.args.step.left k) (inner_at b c.args.step.right l)) c.put_byte.ensures));
   keeps = c.meet-close.ensures.keeps;
 }
 
 pub put_heads-slice_bounds-put_head-count : goal.put_heads-slice_bounds-put_head-count
-put_heads-slice_bounds-put_head-count t c = omega (arith, head_inside c.args.b.now c.args.left c.requires.0.first)
+put_heads-slice_bounds-put_head-count t c = omega (arith, head_inside c.args.b.now c.args.step.left c.requires.0.first)
 
 pub put_heads-slice_bounds-put_head-start : goal.put_heads-slice_bounds-put_head-start
-put_heads-slice_bounds-put_head-start t c = omega (arith, head_inside c.args.b.now c.args.left c.requires.0.first)
+put_heads-slice_bounds-put_head-start t c = omega (arith, head_inside c.args.b.now c.args.step.left c.requires.0.first)
 
 pub put_heads-slice_bounds-put_head-end : goal.put_heads-slice_bounds-put_head-end
 put_heads-slice_bounds-put_head-end t c = omega arith
 
 pub put_heads-slice_bounds-put_head-count-2 : goal.put_heads-slice_bounds-put_head-count-2
-put_heads-slice_bounds-put_head-count-2 t c = omega (arith, head_inside c.args.b.now c.args.right c.requires.0.second)
+put_heads-slice_bounds-put_head-count-2 t c = omega (arith, head_inside c.args.b.now c.args.step.right c.requires.0.second)
 
 pub put_heads-slice_bounds-put_head-start-2 : goal.put_heads-slice_bounds-put_head-start-2
-put_heads-slice_bounds-put_head-start-2 t c = omega (arith, head_inside c.args.b.now c.args.right c.requires.0.second)
+put_heads-slice_bounds-put_head-start-2 t c = omega (arith, head_inside c.args.b.now c.args.step.right c.requires.0.second)
 
 pub put_heads-slice_bounds-put_head-end-2 : goal.put_heads-slice_bounds-put_head-end-2
 put_heads-slice_bounds-put_head-end-2 t c = omega arith
@@ -367,9 +392,9 @@ pub put_heads-put_head-requires : goal.put_heads-put_head-requires
 put_heads-put_head-requires t c =
     let b = c.args.b.now in
     let p = c.requires.0 in (
-      record { first = head_part b c.args.left p.first; second = head_part b c.args.right p.second; short = p.short },
-      λ e l. elim c.if-b-left-eq7.branch [ put_heads-then-b-left-eq7+else-b-right-eq7 w ↦ w.if-b-right-eq7.false (sym (mark_in b c.args.right) ∙ l) | put_heads-else-b-left-eq7 w ↦ w.if-b-left-eq7.false (sym (mark_in b c.args.left) ∙ e) ],
+      record { first = head_part b c.args.step.left p.first; second = head_part b c.args.step.right p.second; short = p.short },
+      λ e l. elim c.if-b-step-eq7.branch [ put_heads-then-b-step-eq7+else-b-step-eq7-2 w ↦ w.if-b-step-eq7-2.false (sym (mark_in b c.args.step.right) ∙ l) | put_heads-else-b-step-eq7 w ↦ w.if-b-step-eq7.false (sym (mark_in b c.args.step.left) ∙ e) ],
     )
 
 pub put_heads-returns : goal.put_heads-returns
-put_heads-returns t c = record { writes = λ x y. c.put_head.ensures (head_part c.args.b.now c.args.left x) (head_part c.args.b.now c.args.right y); keeps = kept_same _ c.args.room.now }
+put_heads-returns t c = record { writes = λ x y. c.put_head.ensures (head_part c.args.b.now c.args.step.left x) (head_part c.args.b.now c.args.step.right y); keeps = kept_same _ c.args.room.now }

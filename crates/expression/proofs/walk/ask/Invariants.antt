@@ -11,8 +11,8 @@ use Rattle.expression.proofs.walk.ask.Given as goal
 
 abbrev pub invariant-loop-x : goal.invariant-loop-x
 invariant-loop-x l =
-    (length l.out ≡ length l.initial.out) × Kept l.from l.initial.room l.room
-    × ((x : TermsAt Mode.pattern (drop l.rest l.b)) (y : TermsAt Mode.pattern (drop l.other l.b)) → Absorbing l.b l.initial.out l.at l.other l.fuel l.swapped x.terms (split_bytes l.swapped l.fuel x.terms y.terms) l.right l.f l.place l.out)
+    (length l.out ≡ length l.initial.out) × Kept l.step.ends.next l.initial.room l.room
+    × ((x : TermsAt Mode.pattern (drop l.step.left l.b)) (y : TermsAt Mode.pattern (drop l.step.right l.b)) → Absorbing l.b l.initial.out l.step.place l.step.right l.step.fuel l.step.swapped x.terms (split_bytes l.step.swapped l.step.fuel x.terms y.terms) l.right l.fuel l.place l.out)
 
 abbrev pub decreases-loop-x : goal.decreases-loop-x
 decreases-loop-x l = length l.b - l.right

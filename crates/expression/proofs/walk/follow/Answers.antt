@@ -22,10 +22,14 @@ loop-right-init c = (
 )
 
 pub slice_bounds-x-count : goal.slice_bounds-x-count
-slice_bounds-x-count c = omega (arith, (let it : c.loop-right.right < length ((c.args.b.now)) = inside ((c.args.b.now)) c.loop-right.right ((let p = c.requires.0 in c.loop-right.invariant.1 p.rest p.fuel p.left p.swapped p.splits.first p.splits.second p.taken)).absorbing.there in it))
+slice_bounds-x-count c =
+    let below : c.loop-right.right < length ((c.args.b.now)) = inside ((c.args.b.now)) c.loop-right.right ((let p = c.requires.0 in c.loop-right.invariant.1 p.rest p.fuel p.left p.swapped p.splits.first p.splits.second p.taken)).absorbing.there in
+    omega (arith, below)
 
 pub slice_bounds-x-start : goal.slice_bounds-x-start
-slice_bounds-x-start c = omega (arith, (let it : c.loop-right.right < length ((c.args.b.now)) = inside ((c.args.b.now)) c.loop-right.right ((let p = c.requires.0 in c.loop-right.invariant.1 p.rest p.fuel p.left p.swapped p.splits.first p.splits.second p.taken)).absorbing.there in it))
+slice_bounds-x-start c =
+    let below : c.loop-right.right < length ((c.args.b.now)) = inside ((c.args.b.now)) c.loop-right.right ((let p = c.requires.0 in c.loop-right.invariant.1 p.rest p.fuel p.left p.swapped p.splits.first p.splits.second p.taken)).absorbing.there in
+    omega (arith, below)
 
 pub slice_bounds-x-end : goal.slice_bounds-x-end
 slice_bounds-x-end c = omega arith
@@ -37,37 +41,45 @@ put_free_term-place-requires c =
     (record { pattern = at_part ((c.args.b.now)) c.loop-right.right g.absorbing.there; short = following_short g d c.requires.0.splits.short }, following_more g d)
 
 pub term_len-right-requires : goal.term_len-right-requires
-term_len-right-requires c = result-at ((let it : TermsAt Mode.pattern (part ((c.args.b.now)) c.loop-right.right) = at_part ((c.args.b.now)) c.loop-right.right ((let p = c.requires.0 in c.loop-right.invariant.1 p.rest p.fuel p.left p.swapped p.splits.first p.splits.second p.taken)).absorbing.there in it))
+term_len-right-requires c =
+    let terms_at : TermsAt Mode.pattern (part ((c.args.b.now)) c.loop-right.right) = at_part ((c.args.b.now)) c.loop-right.right ((let p = c.requires.0 in c.loop-right.invariant.1 p.rest p.fuel p.left p.swapped p.splits.first p.splits.second p.taken)).absorbing.there in
+    result-at (terms_at)
 
 pub overflow_add-right : goal.overflow_add-right
-overflow_add-right c = omega (
-  arith,
-  ((let it : (c.loop-right.right + c.term_len-right.result ≤ length ((c.args.b.now))) × (0 < c.term_len-right.result) = let x = at_part ((c.args.b.now)) c.loop-right.right ((let p = c.requires.0 in c.loop-right.invariant.1 p.rest p.fuel p.left p.swapped p.splits.first p.splits.second p.taken)).absorbing.there in
-      let f = next_fits ((c.args.b.now)) c.loop-right.right x (following_more ((let p = c.requires.0 in c.loop-right.invariant.1 p.rest p.fuel p.left p.swapped p.splits.first p.splits.second p.taken)) c.loop-right-test.true) (omega (arith, (let it : c.loop-right.right < length ((c.args.b.now)) = inside ((c.args.b.now)) c.loop-right.right ((let p = c.requires.0 in c.loop-right.invariant.1 p.rest p.fuel p.left p.swapped p.splits.first p.splits.second p.taken)).absorbing.there in it))) c.term_len-right.result (c.term_len-right.ensures Mode.pattern x) in
-      (f.0, f.1) in it)).0,
-)
+overflow_add-right c =
+    let below : c.loop-right.right < length ((c.args.b.now)) = inside ((c.args.b.now)) c.loop-right.right ((let p = c.requires.0 in c.loop-right.invariant.1 p.rest p.fuel p.left p.swapped p.splits.first p.splits.second p.taken)).absorbing.there in
+    let both : (c.loop-right.right + c.term_len-right.result ≤ length ((c.args.b.now))) × (0 < c.term_len-right.result) = let x = at_part ((c.args.b.now)) c.loop-right.right ((let p = c.requires.0 in c.loop-right.invariant.1 p.rest p.fuel p.left p.swapped p.splits.first p.splits.second p.taken)).absorbing.there in
+    let f = next_fits ((c.args.b.now)) c.loop-right.right x (following_more ((let p = c.requires.0 in c.loop-right.invariant.1 p.rest p.fuel p.left p.swapped p.splits.first p.splits.second p.taken)) c.loop-right-test.true) (omega (arith, below)) c.term_len-right.result (c.term_len-right.ensures Mode.pattern x) in
+    (f.0, f.1) in
+    omega (
+      arith,
+      both.0,
+    )
 
 pub loop-right-smaller : goal.loop-right-smaller
-loop-right-smaller c = omega (
-  arith,
-  ((let it : (c.loop-right.right + c.term_len-right.result ≤ length ((c.args.b.now))) × (0 < c.term_len-right.result) = let x = at_part ((c.args.b.now)) c.loop-right.right ((let p = c.requires.0 in c.loop-right.invariant.1 p.rest p.fuel p.left p.swapped p.splits.first p.splits.second p.taken)).absorbing.there in
-      let f = next_fits ((c.args.b.now)) c.loop-right.right x (following_more ((let p = c.requires.0 in c.loop-right.invariant.1 p.rest p.fuel p.left p.swapped p.splits.first p.splits.second p.taken)) c.loop-right-test.true) (omega (arith, (let it : c.loop-right.right < length ((c.args.b.now)) = inside ((c.args.b.now)) c.loop-right.right ((let p = c.requires.0 in c.loop-right.invariant.1 p.rest p.fuel p.left p.swapped p.splits.first p.splits.second p.taken)).absorbing.there in it))) c.term_len-right.result (c.term_len-right.ensures Mode.pattern x) in
-      (f.0, f.1) in it)).0,
-  ((let it : (c.loop-right.right + c.term_len-right.result ≤ length ((c.args.b.now))) × (0 < c.term_len-right.result) = let x = at_part ((c.args.b.now)) c.loop-right.right ((let p = c.requires.0 in c.loop-right.invariant.1 p.rest p.fuel p.left p.swapped p.splits.first p.splits.second p.taken)).absorbing.there in
-      let f = next_fits ((c.args.b.now)) c.loop-right.right x (following_more ((let p = c.requires.0 in c.loop-right.invariant.1 p.rest p.fuel p.left p.swapped p.splits.first p.splits.second p.taken)) c.loop-right-test.true) (omega (arith, (let it : c.loop-right.right < length ((c.args.b.now)) = inside ((c.args.b.now)) c.loop-right.right ((let p = c.requires.0 in c.loop-right.invariant.1 p.rest p.fuel p.left p.swapped p.splits.first p.splits.second p.taken)).absorbing.there in it))) c.term_len-right.result (c.term_len-right.ensures Mode.pattern x) in
-      (f.0, f.1) in it)).1,
-)
+loop-right-smaller c =
+    let below : c.loop-right.right < length ((c.args.b.now)) = inside ((c.args.b.now)) c.loop-right.right ((let p = c.requires.0 in c.loop-right.invariant.1 p.rest p.fuel p.left p.swapped p.splits.first p.splits.second p.taken)).absorbing.there in
+    let both : (c.loop-right.right + c.term_len-right.result ≤ length ((c.args.b.now))) × (0 < c.term_len-right.result) = let x = at_part ((c.args.b.now)) c.loop-right.right ((let p = c.requires.0 in c.loop-right.invariant.1 p.rest p.fuel p.left p.swapped p.splits.first p.splits.second p.taken)).absorbing.there in
+    let f = next_fits ((c.args.b.now)) c.loop-right.right x (following_more ((let p = c.requires.0 in c.loop-right.invariant.1 p.rest p.fuel p.left p.swapped p.splits.first p.splits.second p.taken)) c.loop-right-test.true) (omega (arith, below)) c.term_len-right.result (c.term_len-right.ensures Mode.pattern x) in
+    (f.0, f.1) in
+    omega (
+      arith,
+      both.0,
+      both.1,
+    )
 
 pub loop-right-preserved : goal.loop-right-preserved
-loop-right-preserved c = (
-  c.put_free_term-place.auto.out ∙ c.loop-right.invariant.0,
-  λ rest fuel left swapped x y k.
-      let g = c.loop-right.invariant.1 rest fuel left swapped x y k in
-      let p = at_part ((c.args.b.now)) c.loop-right.right g.absorbing.there in
-      following_next g c.loop-right-test.true c.term_len-right.result c.put_free_term-place.result c.put_free_term-place.new.out ((let it : (c.loop-right.right + c.term_len-right.result ≤ length ((c.args.b.now))) × (0 < c.term_len-right.result) = let x = at_part ((c.args.b.now)) c.loop-right.right ((let p = c.requires.0 in c.loop-right.invariant.1 p.rest p.fuel p.left p.swapped p.splits.first p.splits.second p.taken)).absorbing.there in
-      let f = next_fits ((c.args.b.now)) c.loop-right.right x (following_more ((let p = c.requires.0 in c.loop-right.invariant.1 p.rest p.fuel p.left p.swapped p.splits.first p.splits.second p.taken)) c.loop-right-test.true) (omega (arith, (let it : c.loop-right.right < length ((c.args.b.now)) = inside ((c.args.b.now)) c.loop-right.right ((let p = c.requires.0 in c.loop-right.invariant.1 p.rest p.fuel p.left p.swapped p.splits.first p.splits.second p.taken)).absorbing.there in it))) c.term_len-right.result (c.term_len-right.ensures Mode.pattern x) in
-      (f.0, f.1) in it)).0 (c.term_len-right.ensures Mode.pattern p) (c.put_free_term-place.ensures p),
-)
+loop-right-preserved c =
+    let below : c.loop-right.right < length ((c.args.b.now)) = inside ((c.args.b.now)) c.loop-right.right ((let p = c.requires.0 in c.loop-right.invariant.1 p.rest p.fuel p.left p.swapped p.splits.first p.splits.second p.taken)).absorbing.there in
+    let both : (c.loop-right.right + c.term_len-right.result ≤ length ((c.args.b.now))) × (0 < c.term_len-right.result) = let x = at_part ((c.args.b.now)) c.loop-right.right ((let p = c.requires.0 in c.loop-right.invariant.1 p.rest p.fuel p.left p.swapped p.splits.first p.splits.second p.taken)).absorbing.there in
+    let f = next_fits ((c.args.b.now)) c.loop-right.right x (following_more ((let p = c.requires.0 in c.loop-right.invariant.1 p.rest p.fuel p.left p.swapped p.splits.first p.splits.second p.taken)) c.loop-right-test.true) (omega (arith, below)) c.term_len-right.result (c.term_len-right.ensures Mode.pattern x) in
+    (f.0, f.1) in (
+      c.put_free_term-place.auto.out ∙ c.loop-right.invariant.0,
+      λ rest fuel left swapped x y k.
+          let g = c.loop-right.invariant.1 rest fuel left swapped x y k in
+          let p = at_part ((c.args.b.now)) c.loop-right.right g.absorbing.there in
+          following_next g c.loop-right-test.true c.term_len-right.result c.put_free_term-place.result c.put_free_term-place.new.out both.0 (c.term_len-right.ensures Mode.pattern p) (c.put_free_term-place.ensures p),
+    )
 
 pub shape_of-out : goal.shape_of-out
 shape_of-out c = c.loop-right.invariant.0

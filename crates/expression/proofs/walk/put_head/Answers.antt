@@ -19,40 +19,40 @@ bounds-t-0 c = omega (arith, head-room c.requires.0.second)
 pub put_free_term-requires : goal.put_free_term-requires
 put_free_term-requires c =
     let p = c.requires.0 in
-    (record { pattern = p.first.pattern; short = omega (arith, ap length (bracket_over_term c.args.swapped p.first p.second c.if-m-eq7.true c.if-n-eq5.true), p.short) }, head_open p.first)
+    (record { pattern = p.first.pattern; short = omega (arith, ap length (bracket_over_term c.args.swapped p.first p.second c.in-7.is c.if-n-eq5.true), p.short) }, head_open p.first)
 
-pub returns-then-n-eq5 : goal.returns-then-n-eq5
-returns-then-n-eq5 c = λ x y. emitted-same (bracket_over_term c.args.swapped x y c.if-m-eq7.true c.if-n-eq5.true) (c.put_free_term.ensures x.pattern)
+pub returns-in-7 : goal.returns-in-7
+returns-in-7 c = λ x y. emitted-same (bracket_over_term c.args.swapped x y c.in-7.is c.if-n-eq5.true) (c.put_free_term.ensures x.pattern)
 
-pub returns-then-m-eq7 : goal.returns-then-m-eq7
-returns-then-m-eq7 c = λ x y. emitted-same (bracket_over_none c.args.swapped x y c.if-m-eq7.true c.if-n-eq5.false (c.requires.1 c.if-m-eq7.true)) (emitted-nothing c.args.out.now c.args.at)
+pub returns-in-7-2 : goal.returns-in-7-2
+returns-in-7-2 c = λ x y. emitted-same (bracket_over_none c.args.swapped x y c.in-7.is c.if-n-eq5.false (c.requires.1 c.in-7.is)) (emitted-nothing c.args.out.now c.args.at)
 
-pub put_free_term-requires-then-m-gt3 : goal.put_free_term-requires-then-m-gt3
-put_free_term-requires-then-m-gt3 c =
+pub put_free_term-requires-in-4-to-255 : goal.put_free_term-requires-in-4-to-255
+put_free_term-requires-in-4-to-255 c =
     let p = c.requires.0 in
-    (record { pattern = p.second.pattern; short = omega (arith, ap length (variable_over c.args.swapped p.first p.second c.if-m-eq7.false c.if-m-gt3.true), p.short) }, head_open p.second)
+    (record { pattern = p.second.pattern; short = omega (arith, ap length (variable_over c.args.swapped p.first p.second (λ e. omega (arith, e)) (omega arith)), p.short) }, head_open p.second)
 
-pub returns-then-m-gt3 : goal.returns-then-m-gt3
-returns-then-m-gt3 c = λ x y. emitted-same (variable_over c.args.swapped x y c.if-m-eq7.false c.if-m-gt3.true) (c.put_free_term-then-m-gt3.ensures y.pattern)
+pub returns-in-4-to-255 : goal.returns-in-4-to-255
+returns-in-4-to-255 c = λ x y. emitted-same (variable_over c.args.swapped x y (λ e. omega (arith, e)) (omega arith)) (c.put_free_term-in-4-to-255.ensures y.pattern)
 
-pub returns-then-n-eq7 : goal.returns-then-n-eq7
-returns-then-n-eq7 c = λ x y. emitted-same (literal_against_bracket c.args.swapped x y (λ l. omega (arith, l, c.if-m-gt3.false)) c.if-n-eq7.true) (emitted-nothing c.args.out.now c.args.at)
+pub returns-in_default : goal.returns-in_default
+returns-in_default c = λ x y. emitted-same (literal_against_bracket c.args.swapped x y (λ l. omega (arith, l)) c.if-n-eq7.true) (emitted-nothing c.args.out.now c.args.at)
 
-pub put_free_term-requires-then-n-lt4 : goal.put_free_term-requires-then-n-lt4
-put_free_term-requires-then-n-lt4 c =
+pub put_free_term-requires-in_default-2 : goal.put_free_term-requires-in_default-2
+put_free_term-requires-in_default-2 c =
     let p = c.requires.0 in
-    (record { pattern = p.second.pattern; short = omega (arith, ap length (second-literal c.args.swapped p.first p.second (λ l. omega (arith, l, c.if-m-gt3.false)) c.if-swapped.true c.if-n-lt4.true), p.short) }, head_open p.second)
+    (record { pattern = p.second.pattern; short = omega (arith, ap length (second-literal c.args.swapped p.first p.second (λ l. omega (arith, l)) c.if-swapped.true c.if-n-lt4.true), p.short) }, head_open p.second)
 
-pub returns-then-n-lt4 : goal.returns-then-n-lt4
-returns-then-n-lt4 c = λ x y. emitted-same (second-literal c.args.swapped x y (λ l. omega (arith, l, c.if-m-gt3.false)) c.if-swapped.true c.if-n-lt4.true) (c.put_free_term-then-n-lt4.ensures y.pattern)
+pub returns-in_default-2 : goal.returns-in_default-2
+returns-in_default-2 c = λ x y. emitted-same (second-literal c.args.swapped x y (λ l. omega (arith, l)) c.if-swapped.true c.if-n-lt4.true) (c.put_free_term-in_default-2.ensures y.pattern)
 
-pub put_free_term-requires-2 : goal.put_free_term-requires-2
-put_free_term-requires-2 c =
+pub put_free_term-requires-in_default-3 : goal.put_free_term-requires-in_default-3
+put_free_term-requires-in_default-3 c =
     let p = c.requires.0 in
     let n : c.args.swapped ≡ true → get_or c.args.t.now 0 0 < 4 → ⊥ = λ e l. elim c.if-swapped.branch [ then-swapped+else-n-lt4 w ↦ omega (arith, w.if-n-lt4.false, l) | else-swapped w ↦ true≢false (sym e ∙ w.if-swapped.false) ] in
-    (record { pattern = p.first.pattern; short = omega (arith, ap length (first_literal_only c.args.swapped p.first p.second (λ l. omega (arith, l, c.if-m-gt3.false)) c.if-n-eq7.false n), p.short) }, head_open p.first)
+    (record { pattern = p.first.pattern; short = omega (arith, ap length (first_literal_only c.args.swapped p.first p.second (λ l. omega (arith, l)) c.if-n-eq7.false n), p.short) }, head_open p.first)
 
-pub returns : goal.returns
-returns c =
+pub returns-in_default-3 : goal.returns-in_default-3
+returns-in_default-3 c =
     let n : c.args.swapped ≡ true → get_or c.args.t.now 0 0 < 4 → ⊥ = λ e l. elim c.if-swapped.branch [ then-swapped+else-n-lt4 w ↦ omega (arith, w.if-n-lt4.false, l) | else-swapped w ↦ true≢false (sym e ∙ w.if-swapped.false) ] in
-    λ x y. emitted-same (first_literal_only c.args.swapped x y (λ l. omega (arith, l, c.if-m-gt3.false)) c.if-n-eq7.false n) (c.put_free_term-2.ensures x.pattern)
+    λ x y. emitted-same (first_literal_only c.args.swapped x y (λ l. omega (arith, l)) c.if-n-eq7.false n) (c.put_free_term-in_default-3.ensures x.pattern)

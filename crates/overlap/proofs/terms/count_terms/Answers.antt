@@ -28,40 +28,48 @@ pub term_len-i-requires : goal.term_len-i-requires
 term_len-i-requires c = result-at c.loop-x.invariant.2
 
 pub overflow_add-i : goal.overflow_add-i
-overflow_add-i c = omega (
-  arith,
-  (let it : (c.loop-x.i + c.term_len-i.result ≤ length c.args.s.now) × (0 < c.term_len-i.result) = let r = c.loop-x.invariant.2 in
-      let f = next_fits c.args.s.now c.loop-x.i r c.if-x-eq15.false c.loop-x.invariant.0 c.term_len-i.result (c.term_len-i.ensures Mode.pattern r) in
-      (f.0, f.1) in it),
-)
+overflow_add-i c =
+    let both : (c.loop-x.i + c.term_len-i.result ≤ length c.args.s.now) × (0 < c.term_len-i.result) = let r = c.loop-x.invariant.2 in
+    let f = next_fits c.args.s.now c.loop-x.i r c.if-x-eq15.false c.loop-x.invariant.0 c.term_len-i.result (c.term_len-i.ensures Mode.pattern r) in
+    (f.0, f.1) in
+    omega (
+      arith,
+      both,
+    )
 
 pub overflow_add-n : goal.overflow_add-n
-overflow_add-n c = omega (
-  arith,
-  (let it : (c.loop-x.i + c.term_len-i.result ≤ length c.args.s.now) × (0 < c.term_len-i.result) = let r = c.loop-x.invariant.2 in
-      let f = next_fits c.args.s.now c.loop-x.i r c.if-x-eq15.false c.loop-x.invariant.0 c.term_len-i.result (c.term_len-i.ensures Mode.pattern r) in
-      (f.0, f.1) in it),
-)
+overflow_add-n c =
+    let both : (c.loop-x.i + c.term_len-i.result ≤ length c.args.s.now) × (0 < c.term_len-i.result) = let r = c.loop-x.invariant.2 in
+    let f = next_fits c.args.s.now c.loop-x.i r c.if-x-eq15.false c.loop-x.invariant.0 c.term_len-i.result (c.term_len-i.ensures Mode.pattern r) in
+    (f.0, f.1) in
+    omega (
+      arith,
+      both,
+    )
 
 pub loop-x-smaller : goal.loop-x-smaller
-loop-x-smaller c = omega (
-  arith,
-  (let it : (c.loop-x.i + c.term_len-i.result ≤ length c.args.s.now) × (0 < c.term_len-i.result) = let r = c.loop-x.invariant.2 in
-      let f = next_fits c.args.s.now c.loop-x.i r c.if-x-eq15.false c.loop-x.invariant.0 c.term_len-i.result (c.term_len-i.ensures Mode.pattern r) in
-      (f.0, f.1) in it),
-)
+loop-x-smaller c =
+    let both : (c.loop-x.i + c.term_len-i.result ≤ length c.args.s.now) × (0 < c.term_len-i.result) = let r = c.loop-x.invariant.2 in
+    let f = next_fits c.args.s.now c.loop-x.i r c.if-x-eq15.false c.loop-x.invariant.0 c.term_len-i.result (c.term_len-i.ensures Mode.pattern r) in
+    (f.0, f.1) in
+    omega (
+      arith,
+      both,
+    )
 
 pub loop-x-preserved : goal.loop-x-preserved
 loop-x-preserved c =
+    let both : (c.loop-x.i + c.term_len-i.result ≤ length c.args.s.now) × (0 < c.term_len-i.result) = let r = c.loop-x.invariant.2 in
+    let f = next_fits c.args.s.now c.loop-x.i r c.if-x-eq15.false c.loop-x.invariant.0 c.term_len-i.result (c.term_len-i.ensures Mode.pattern r) in
+    (f.0, f.1) in
+    let both_2 : (c.loop-x.i + c.term_len-i.result ≤ length c.args.s.now) × (0 < c.term_len-i.result) = let r = c.loop-x.invariant.2 in
+    let f = next_fits c.args.s.now c.loop-x.i r c.if-x-eq15.false c.loop-x.invariant.0 c.term_len-i.result (c.term_len-i.ensures Mode.pattern r) in
+    (f.0, f.1) in
     let r = c.loop-x.invariant.2 in (
-      ((let it : (c.loop-x.i + c.term_len-i.result ≤ length c.args.s.now) × (0 < c.term_len-i.result) = let r = c.loop-x.invariant.2 in
-          let f = next_fits c.args.s.now c.loop-x.i r c.if-x-eq15.false c.loop-x.invariant.0 c.term_len-i.result (c.term_len-i.ensures Mode.pattern r) in
-          (f.0, f.1) in it)).0,
+      both.0,
       omega (
         arith,
-        (let it : (c.loop-x.i + c.term_len-i.result ≤ length c.args.s.now) × (0 < c.term_len-i.result) = let r = c.loop-x.invariant.2 in
-            let f = next_fits c.args.s.now c.loop-x.i r c.if-x-eq15.false c.loop-x.invariant.0 c.term_len-i.result (c.term_len-i.ensures Mode.pattern r) in
-            (f.0, f.1) in it),
+        both_2,
       ),
       next-at c.args.s.now c.loop-x.i r c.term_len-i.result (c.term_len-i.ensures Mode.pattern r),
     )

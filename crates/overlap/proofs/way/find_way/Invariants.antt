@@ -7,9 +7,9 @@ use Rattle.rows.specs.Rows.{Kept}
 use Rattle.overlap.specs.Way.{Trail}
 use Rattle.overlap.proofs.way.find_way.Given as goal
 
-abbrev pub invariant-loop-t : goal.invariant-loop-t
-invariant-loop-t l =
-    Kept l.from l.initial.room l.room × (l.from + 3 * l.height ≤ length l.room) × TermsAt Mode.pattern (drop l.i l.b) × TermsAt Mode.pattern (drop l.j l.b) × Trail l.b l.room l.from l.fuel l.left l.right l.height l.f l.i l.j
+abbrev pub invariant-loop-next : goal.invariant-loop-next
+invariant-loop-next l =
+    Kept l.from l.initial.room l.room × (l.from + 3 * l.pair.height ≤ length l.room) × TermsAt Mode.pattern (drop l.pair.left l.b) × TermsAt Mode.pattern (drop l.pair.right l.b) × Trail l.b l.room l.from l.fuel l.left l.right l.pair.height l.pair.fuel l.pair.left l.pair.right
 
-abbrev pub decreases-loop-t : goal.decreases-loop-t
-decreases-loop-t l = l.f
+abbrev pub decreases-loop-next : goal.decreases-loop-next
+decreases-loop-next l = l.pair.fuel

@@ -9,92 +9,144 @@ use Rattle.image.proofs.Readings.{result-at}
 use Rattle.rows.specs.Rows.{Kept}
 use Rattle.rows.proofs.Places.{kept_same, kept_less}
 use Rattle.rows.proofs.Readings.{inside, at_part, after_term, mark_in, pattern-room, next_fits}
-use Rattle.overlap.specs.declared.way.Turn.{Turn}
-use Rattle.overlap.specs.Way.{Failing, Trail}
-use Rattle.overlap.proofs.Ways.{Past, split_kept, failing-rest, failing-other, failing-last, failing-next, turned_on, turned_stop, goes_on, goes_not}
+use Rattle.overlap.specs.Way.{Failing, Trail, in_turn, way-any}
+use Rattle.overlap.proofs.Ways.{Past, split_kept, failing-rest, failing-other, failing-last, failing-next}
 use Rattle.overlap.proofs.way.next_end.Goals as goal
 
-pub loop-n-init : goal.loop-n-init
-loop-n-init c = (refl, omega arith, λ f p q s. s)
-
-pub overflow_sub-k : goal.overflow_sub-k
-overflow_sub-k c = omega (arith, c.loop-n-test.true)
+pub loop-k-init : goal.loop-k-init
+loop-k-init c = (refl, omega arith, λ f p q s. s)
 
 pub overflow_mul-at : goal.overflow_mul-at
-overflow_mul-at c = omega (arith, (let it : c.args.from + 3 * (c.loop-n.n - 1) + 3 ≤ length c.loop-n.room = omega (arith, c.loop-n-test.true, c.loop-n.invariant.1, c.requires.2, ap length c.loop-n.invariant.0) in it))
+overflow_mul-at c =
+    let within : c.args.from + 3 * (c.loop-k.k - 1) + 3 ≤ length c.loop-k.room = omega (arith, c.loop-k-test.true, c.loop-k.invariant.1, c.requires.2, ap length c.loop-k.invariant.0) in
+    omega (arith, within)
 
 pub overflow_add-at : goal.overflow_add-at
-overflow_add-at c = omega (arith, (let it : c.args.from + 3 * (c.loop-n.n - 1) + 3 ≤ length c.loop-n.room = omega (arith, c.loop-n-test.true, c.loop-n.invariant.1, c.requires.2, ap length c.loop-n.invariant.0) in it))
+overflow_add-at c =
+    let within : c.args.from + 3 * (c.loop-k.k - 1) + 3 ≤ length c.loop-k.room = omega (arith, c.loop-k-test.true, c.loop-k.invariant.1, c.requires.2, ap length c.loop-k.invariant.0) in
+    omega (arith, within)
 
-pub overflow_add-at-in-loop-n : goal.overflow_add-at-in-loop-n
-overflow_add-at-in-loop-n c = omega (arith, (let it : c.args.from + 3 * (c.loop-n.n - 1) + 3 ≤ length c.loop-n.room = omega (arith, c.loop-n-test.true, c.loop-n.invariant.1, c.requires.2, ap length c.loop-n.invariant.0) in it))
-
-pub place_in-other-requires : goal.place_in-other-requires
-place_in-other-requires c = omega (arith, (let it : c.args.from + 3 * (c.loop-n.n - 1) + 3 ≤ length c.loop-n.room = omega (arith, c.loop-n-test.true, c.loop-n.invariant.1, c.requires.2, ap length c.loop-n.invariant.0) in it))
+pub split_in-split-requires : goal.split_in-split-requires
+split_in-split-requires c =
+    let within : c.args.from + 3 * (c.loop-k.k - 1) + 3 ≤ length c.loop-k.room = omega (arith, c.loop-k-test.true, c.loop-k.invariant.1, c.requires.2, ap length c.loop-k.invariant.0) in
+    omega (arith, within)
 
 pub slice_bounds-x-count : goal.slice_bounds-x-count
-slice_bounds-x-count c = omega (arith, (let it : c.place_in-other.result < length ((let it : List ℕ = c.args.b.now in it)) = inside ((let it : List ℕ = c.args.b.now in it)) c.place_in-other.result ((let it : TermsAt Mode.pattern (drop c.place_in-other.result ((let it : List ℕ = c.args.b.now in it))) = failing-other ((let it : Failing ((let it : List ℕ = c.args.b.now in it)) c.loop-n.room c.args.from c.requires.0.fuel c.requires.0.left c.requires.0.right c.loop-n.n c.args.fuel = let s = c.requires.0 in c.loop-n.invariant.2 s.fuel s.left s.right s.failing in it)) (c.loop-n.n - 1) ((let it : c.loop-n.n ≡ suc (c.loop-n.n - 1) = omega (arith, c.loop-n-test.true) in it)) c.place_in-other.result c.place_in-other.ensures in it)) in it))
+slice_bounds-x-count c =
+    let values : List ℕ = c.args.b.now in
+    let failing : Failing values c.loop-k.room c.args.from c.requires.0.fuel c.requires.0.left c.requires.0.right c.loop-k.k c.args.fuel = let s = c.requires.0 in c.loop-k.invariant.2 s.fuel s.left s.right s.failing in
+    let same : c.loop-k.k ≡ suc (c.loop-k.k - 1) = omega (arith, c.loop-k-test.true) in
+    let terms_at : TermsAt Mode.pattern (drop c.split_in-split.result.other values) = failing-other failing (c.loop-k.k - 1) same c.split_in-split.result.other c.split_in-split.ensures.1 in
+    let below : c.split_in-split.result.other < length values = inside values c.split_in-split.result.other terms_at in
+    omega (arith, below)
 
 pub slice_bounds-x-start : goal.slice_bounds-x-start
-slice_bounds-x-start c = omega (arith, (let it : c.place_in-other.result < length ((let it : List ℕ = c.args.b.now in it)) = inside ((let it : List ℕ = c.args.b.now in it)) c.place_in-other.result ((let it : TermsAt Mode.pattern (drop c.place_in-other.result ((let it : List ℕ = c.args.b.now in it))) = failing-other ((let it : Failing ((let it : List ℕ = c.args.b.now in it)) c.loop-n.room c.args.from c.requires.0.fuel c.requires.0.left c.requires.0.right c.loop-n.n c.args.fuel = let s = c.requires.0 in c.loop-n.invariant.2 s.fuel s.left s.right s.failing in it)) (c.loop-n.n - 1) ((let it : c.loop-n.n ≡ suc (c.loop-n.n - 1) = omega (arith, c.loop-n-test.true) in it)) c.place_in-other.result c.place_in-other.ensures in it)) in it))
+slice_bounds-x-start c =
+    let values : List ℕ = c.args.b.now in
+    let failing : Failing values c.loop-k.room c.args.from c.requires.0.fuel c.requires.0.left c.requires.0.right c.loop-k.k c.args.fuel = let s = c.requires.0 in c.loop-k.invariant.2 s.fuel s.left s.right s.failing in
+    let same : c.loop-k.k ≡ suc (c.loop-k.k - 1) = omega (arith, c.loop-k-test.true) in
+    let terms_at : TermsAt Mode.pattern (drop c.split_in-split.result.other values) = failing-other failing (c.loop-k.k - 1) same c.split_in-split.result.other c.split_in-split.ensures.1 in
+    let below : c.split_in-split.result.other < length values = inside values c.split_in-split.result.other terms_at in
+    omega (arith, below)
 
 pub slice_bounds-x-end : goal.slice_bounds-x-end
 slice_bounds-x-end c = omega arith
 
 pub bounds-x-0 : goal.bounds-x-0
-bounds-x-0 c = pattern-room (at_part ((let it : List ℕ = c.args.b.now in it)) c.place_in-other.result ((let it : TermsAt Mode.pattern (drop c.place_in-other.result ((let it : List ℕ = c.args.b.now in it))) = failing-other ((let it : Failing ((let it : List ℕ = c.args.b.now in it)) c.loop-n.room c.args.from c.requires.0.fuel c.requires.0.left c.requires.0.right c.loop-n.n c.args.fuel = let s = c.requires.0 in c.loop-n.invariant.2 s.fuel s.left s.right s.failing in it)) (c.loop-n.n - 1) ((let it : c.loop-n.n ≡ suc (c.loop-n.n - 1) = omega (arith, c.loop-n-test.true) in it)) c.place_in-other.result c.place_in-other.ensures in it)))
+bounds-x-0 c =
+    let values : List ℕ = c.args.b.now in
+    let failing : Failing values c.loop-k.room c.args.from c.requires.0.fuel c.requires.0.left c.requires.0.right c.loop-k.k c.args.fuel = let s = c.requires.0 in c.loop-k.invariant.2 s.fuel s.left s.right s.failing in
+    let same : c.loop-k.k ≡ suc (c.loop-k.k - 1) = omega (arith, c.loop-k-test.true) in
+    let terms_at : TermsAt Mode.pattern (drop c.split_in-split.result.other values) = failing-other failing (c.loop-k.k - 1) same c.split_in-split.result.other c.split_in-split.ensures.1 in
+    pattern-room (at_part values c.split_in-split.result.other terms_at)
 
 pub term_len-requires : goal.term_len-requires
-term_len-requires c = result-at (at_part ((let it : List ℕ = c.args.b.now in it)) c.place_in-other.result ((let it : TermsAt Mode.pattern (drop c.place_in-other.result ((let it : List ℕ = c.args.b.now in it))) = failing-other ((let it : Failing ((let it : List ℕ = c.args.b.now in it)) c.loop-n.room c.args.from c.requires.0.fuel c.requires.0.left c.requires.0.right c.loop-n.n c.args.fuel = let s = c.requires.0 in c.loop-n.invariant.2 s.fuel s.left s.right s.failing in it)) (c.loop-n.n - 1) ((let it : c.loop-n.n ≡ suc (c.loop-n.n - 1) = omega (arith, c.loop-n-test.true) in it)) c.place_in-other.result c.place_in-other.ensures in it)))
+term_len-requires c =
+    let values : List ℕ = c.args.b.now in
+    let failing : Failing values c.loop-k.room c.args.from c.requires.0.fuel c.requires.0.left c.requires.0.right c.loop-k.k c.args.fuel = let s = c.requires.0 in c.loop-k.invariant.2 s.fuel s.left s.right s.failing in
+    let same : c.loop-k.k ≡ suc (c.loop-k.k - 1) = omega (arith, c.loop-k-test.true) in
+    let terms_at : TermsAt Mode.pattern (drop c.split_in-split.result.other values) = failing-other failing (c.loop-k.k - 1) same c.split_in-split.result.other c.split_in-split.ensures.1 in
+    result-at (at_part values c.split_in-split.result.other terms_at)
 
 pub overflow_add-next : goal.overflow_add-next
-overflow_add-next c = omega (
-  arith,
-  (let it : c.place_in-other.result + c.term_len.result ≤ length ((let it : List ℕ = c.args.b.now in it)) = let b = (let it : List ℕ = c.args.b.now in it) in
-      let i = c.place_in-other.result in
-      (next_fits b i (at_part b i ((let it : TermsAt Mode.pattern (drop c.place_in-other.result ((let it : List ℕ = c.args.b.now in it))) = failing-other ((let it : Failing ((let it : List ℕ = c.args.b.now in it)) c.loop-n.room c.args.from c.requires.0.fuel c.requires.0.left c.requires.0.right c.loop-n.n c.args.fuel = let s = c.requires.0 in c.loop-n.invariant.2 s.fuel s.left s.right s.failing in it)) (c.loop-n.n - 1) ((let it : c.loop-n.n ≡ suc (c.loop-n.n - 1) = omega (arith, c.loop-n-test.true) in it)) c.place_in-other.result c.place_in-other.ensures in it))) c.if-x-ne15.true (omega (arith, (let it : c.place_in-other.result < length ((let it : List ℕ = c.args.b.now in it)) = inside ((let it : List ℕ = c.args.b.now in it)) c.place_in-other.result ((let it : TermsAt Mode.pattern (drop c.place_in-other.result ((let it : List ℕ = c.args.b.now in it))) = failing-other ((let it : Failing ((let it : List ℕ = c.args.b.now in it)) c.loop-n.room c.args.from c.requires.0.fuel c.requires.0.left c.requires.0.right c.loop-n.n c.args.fuel = let s = c.requires.0 in c.loop-n.invariant.2 s.fuel s.left s.right s.failing in it)) (c.loop-n.n - 1) ((let it : c.loop-n.n ≡ suc (c.loop-n.n - 1) = omega (arith, c.loop-n-test.true) in it)) c.place_in-other.result c.place_in-other.ensures in it)) in it))) c.term_len.result ((let it : Past ((let it : List ℕ = c.args.b.now in it)) c.term_len.result c.place_in-other.result = λ x. c.term_len.ensures Mode.pattern (at_part ((let it : List ℕ = c.args.b.now in it)) c.place_in-other.result x) in it) ((let it : TermsAt Mode.pattern (drop c.place_in-other.result ((let it : List ℕ = c.args.b.now in it))) = failing-other ((let it : Failing ((let it : List ℕ = c.args.b.now in it)) c.loop-n.room c.args.from c.requires.0.fuel c.requires.0.left c.requires.0.right c.loop-n.n c.args.fuel = let s = c.requires.0 in c.loop-n.invariant.2 s.fuel s.left s.right s.failing in it)) (c.loop-n.n - 1) ((let it : c.loop-n.n ≡ suc (c.loop-n.n - 1) = omega (arith, c.loop-n-test.true) in it)) c.place_in-other.result c.place_in-other.ensures in it)))).0 in it),
-  c.requires.1,
-)
-
-pub place_in-rest-requires : goal.place_in-rest-requires
-place_in-rest-requires c = omega (arith, (let it : c.args.from + 3 * (c.loop-n.n - 1) + 3 ≤ length c.loop-n.room = omega (arith, c.loop-n-test.true, c.loop-n.invariant.1, c.requires.2, ap length c.loop-n.invariant.0) in it))
+overflow_add-next c =
+    let values : List ℕ = c.args.b.now in
+    let failing : Failing values c.loop-k.room c.args.from c.requires.0.fuel c.requires.0.left c.requires.0.right c.loop-k.k c.args.fuel = let s = c.requires.0 in c.loop-k.invariant.2 s.fuel s.left s.right s.failing in
+    let same : c.loop-k.k ≡ suc (c.loop-k.k - 1) = omega (arith, c.loop-k-test.true) in
+    let terms_at : TermsAt Mode.pattern (drop c.split_in-split.result.other values) = failing-other failing (c.loop-k.k - 1) same c.split_in-split.result.other c.split_in-split.ensures.1 in
+    let below : c.split_in-split.result.other < length values = inside values c.split_in-split.result.other terms_at in
+    let past : Past values c.term_len.result c.split_in-split.result.other = λ x. c.term_len.ensures Mode.pattern (at_part values c.split_in-split.result.other x) in
+    let within : c.split_in-split.result.other + c.term_len.result ≤ length values = let b = values in
+    let i = c.split_in-split.result.other in
+    (next_fits b i (at_part b i terms_at) c.if-x-ne15.true (omega (arith, below)) c.term_len.result (past terms_at)).0 in
+    omega (
+      arith,
+      within,
+      c.requires.1,
+    )
 
 pub put_split-requires : goal.put_split-requires
-put_split-requires c = (
-  omega (arith, inside ((let it : List ℕ = c.args.b.now in it)) c.place_in-rest.result ((let it : TermsAt Mode.pattern (drop c.place_in-rest.result ((let it : List ℕ = c.args.b.now in it))) = failing-rest ((let it : Failing ((let it : List ℕ = c.args.b.now in it)) c.loop-n.room c.args.from c.requires.0.fuel c.requires.0.left c.requires.0.right c.loop-n.n c.args.fuel = let s = c.requires.0 in c.loop-n.invariant.2 s.fuel s.left s.right s.failing in it)) (c.loop-n.n - 1) ((let it : c.loop-n.n ≡ suc (c.loop-n.n - 1) = omega (arith, c.loop-n-test.true) in it)) c.place_in-rest.result c.place_in-rest.ensures in it)), c.requires.1),
-  omega (
-    arith,
-    (let it : c.place_in-other.result + c.term_len.result ≤ length ((let it : List ℕ = c.args.b.now in it)) = let b = (let it : List ℕ = c.args.b.now in it) in
-        let i = c.place_in-other.result in
-        (next_fits b i (at_part b i ((let it : TermsAt Mode.pattern (drop c.place_in-other.result ((let it : List ℕ = c.args.b.now in it))) = failing-other ((let it : Failing ((let it : List ℕ = c.args.b.now in it)) c.loop-n.room c.args.from c.requires.0.fuel c.requires.0.left c.requires.0.right c.loop-n.n c.args.fuel = let s = c.requires.0 in c.loop-n.invariant.2 s.fuel s.left s.right s.failing in it)) (c.loop-n.n - 1) ((let it : c.loop-n.n ≡ suc (c.loop-n.n - 1) = omega (arith, c.loop-n-test.true) in it)) c.place_in-other.result c.place_in-other.ensures in it))) c.if-x-ne15.true (omega (arith, (let it : c.place_in-other.result < length ((let it : List ℕ = c.args.b.now in it)) = inside ((let it : List ℕ = c.args.b.now in it)) c.place_in-other.result ((let it : TermsAt Mode.pattern (drop c.place_in-other.result ((let it : List ℕ = c.args.b.now in it))) = failing-other ((let it : Failing ((let it : List ℕ = c.args.b.now in it)) c.loop-n.room c.args.from c.requires.0.fuel c.requires.0.left c.requires.0.right c.loop-n.n c.args.fuel = let s = c.requires.0 in c.loop-n.invariant.2 s.fuel s.left s.right s.failing in it)) (c.loop-n.n - 1) ((let it : c.loop-n.n ≡ suc (c.loop-n.n - 1) = omega (arith, c.loop-n-test.true) in it)) c.place_in-other.result c.place_in-other.ensures in it)) in it))) c.term_len.result ((let it : Past ((let it : List ℕ = c.args.b.now in it)) c.term_len.result c.place_in-other.result = λ x. c.term_len.ensures Mode.pattern (at_part ((let it : List ℕ = c.args.b.now in it)) c.place_in-other.result x) in it) ((let it : TermsAt Mode.pattern (drop c.place_in-other.result ((let it : List ℕ = c.args.b.now in it))) = failing-other ((let it : Failing ((let it : List ℕ = c.args.b.now in it)) c.loop-n.room c.args.from c.requires.0.fuel c.requires.0.left c.requires.0.right c.loop-n.n c.args.fuel = let s = c.requires.0 in c.loop-n.invariant.2 s.fuel s.left s.right s.failing in it)) (c.loop-n.n - 1) ((let it : c.loop-n.n ≡ suc (c.loop-n.n - 1) = omega (arith, c.loop-n-test.true) in it)) c.place_in-other.result c.place_in-other.ensures in it)))).0 in it),
-    c.requires.1,
-  ),
-  (let it : c.args.from + 3 * (c.loop-n.n - 1) + 3 ≤ length c.loop-n.room = omega (arith, c.loop-n-test.true, c.loop-n.invariant.1, c.requires.2, ap length c.loop-n.invariant.0) in it),
-)
+put_split-requires c =
+    let values : List ℕ = c.args.b.now in
+    let failing : Failing values c.loop-k.room c.args.from c.requires.0.fuel c.requires.0.left c.requires.0.right c.loop-k.k c.args.fuel = let s = c.requires.0 in c.loop-k.invariant.2 s.fuel s.left s.right s.failing in
+    let same : c.loop-k.k ≡ suc (c.loop-k.k - 1) = omega (arith, c.loop-k-test.true) in
+    let terms_at : TermsAt Mode.pattern (drop c.split_in-split.result.rest values) = failing-rest failing (c.loop-k.k - 1) same c.split_in-split.result.rest c.split_in-split.ensures.0 in
+    let the_terms_at : TermsAt Mode.pattern (drop c.split_in-split.result.other values) = failing-other failing (c.loop-k.k - 1) same c.split_in-split.result.other c.split_in-split.ensures.1 in
+    let below : c.split_in-split.result.other < length values = inside values c.split_in-split.result.other the_terms_at in
+    let past : Past values c.term_len.result c.split_in-split.result.other = λ x. c.term_len.ensures Mode.pattern (at_part values c.split_in-split.result.other x) in
+    let within : c.split_in-split.result.other + c.term_len.result ≤ length values = let b = values in
+    let i = c.split_in-split.result.other in
+    (next_fits b i (at_part b i the_terms_at) c.if-x-ne15.true (omega (arith, below)) c.term_len.result (past the_terms_at)).0 in
+    let within_2 : c.args.from + 3 * (c.loop-k.k - 1) + 3 ≤ length c.loop-k.room = omega (arith, c.loop-k-test.true, c.loop-k.invariant.1, c.requires.2, ap length c.loop-k.invariant.0) in (
+      omega (arith, inside values c.split_in-split.result.rest terms_at, c.requires.1),
+      omega (
+        arith,
+        within,
+        c.requires.1,
+      ),
+      within_2,
+    )
 
 pub shape_of-room-then-x-ne15 : goal.shape_of-room-then-x-ne15
-shape_of-room-then-x-ne15 c = ((let it : Kept ((let it : ℕ = c.args.from + 3 * (c.loop-n.n - 1) in it)) c.args.room.now ((let it : List ℕ = c.put_split.new.room in it)) = subst (λ (m : List ℕ). Kept ((let it : ℕ = c.args.from + 3 * (c.loop-n.n - 1) in it)) m ((let it : List ℕ = c.put_split.new.room in it))) c.loop-n.invariant.0
-    (subst (λ (m : List ℕ). Kept ((let it : ℕ = c.args.from + 3 * (c.loop-n.n - 1) in it)) c.loop-n.room m) (sym c.put_split.ensures) (split_kept c.loop-n.room ((let it : ℕ = c.args.from + 3 * (c.loop-n.n - 1) in it)) c.place_in-rest.result ((let it : ℕ = c.place_in-other.result + c.term_len.result in it)) c.args.fuel)) in it)).length
+shape_of-room-then-x-ne15 c =
+    let fact : ℕ = c.args.from + 3 * (c.loop-k.k - 1) in
+    let values : List ℕ = c.put_split.new.room in
+    let fact_2 : ℕ = c.split_in-split.result.other + c.term_len.result in
+    let kept : Kept fact c.args.room.now values = subst (λ (m : List ℕ). Kept fact m values) c.loop-k.invariant.0
+    (subst (λ (m : List ℕ). Kept fact c.loop-k.room m) (sym c.put_split.ensures) (split_kept c.loop-k.room fact c.split_in-split.result.rest fact_2 c.args.fuel)) in
+    (kept).length
 
 pub returns-then-x-ne15 : goal.returns-then-x-ne15
-returns-then-x-ne15 c = let k = c.loop-n.n - 1 in let at = after_term ((let it : List ℕ = c.args.b.now in it)) c.place_in-other.result c.term_len.result ((let it : TermsAt Mode.pattern (drop c.place_in-other.result ((let it : List ℕ = c.args.b.now in it))) = failing-other ((let it : Failing ((let it : List ℕ = c.args.b.now in it)) c.loop-n.room c.args.from c.requires.0.fuel c.requires.0.left c.requires.0.right c.loop-n.n c.args.fuel = let s = c.requires.0 in c.loop-n.invariant.2 s.fuel s.left s.right s.failing in it)) (c.loop-n.n - 1) ((let it : c.loop-n.n ≡ suc (c.loop-n.n - 1) = omega (arith, c.loop-n-test.true) in it)) c.place_in-other.result c.place_in-other.ensures in it)) ((let it : Past ((let it : List ℕ = c.args.b.now in it)) c.term_len.result c.place_in-other.result = λ x. c.term_len.ensures Mode.pattern (at_part ((let it : List ℕ = c.args.b.now in it)) c.place_in-other.result x) in it) ((let it : TermsAt Mode.pattern (drop c.place_in-other.result ((let it : List ℕ = c.args.b.now in it))) = failing-other ((let it : Failing ((let it : List ℕ = c.args.b.now in it)) c.loop-n.room c.args.from c.requires.0.fuel c.requires.0.left c.requires.0.right c.loop-n.n c.args.fuel = let s = c.requires.0 in c.loop-n.invariant.2 s.fuel s.left s.right s.failing in it)) (c.loop-n.n - 1) ((let it : c.loop-n.n ≡ suc (c.loop-n.n - 1) = omega (arith, c.loop-n-test.true) in it)) c.place_in-other.result c.place_in-other.ensures in it))) in record {
-  turns = λ f p q v. turned_on c.go_on.result c.place_in-rest.result ((let it : ℕ = c.place_in-other.result + c.term_len.result in it)) c.args.fuel c.loop-n.n c.go_on.ensures
-      (subst (λ (m : List ℕ). Trail ((let it : List ℕ = c.args.b.now in it)) m c.args.from f p q c.loop-n.n c.args.fuel c.place_in-rest.result ((let it : ℕ = c.place_in-other.result + c.term_len.result in it))) (sym c.put_split.ensures)
-      (failing-next (c.loop-n.invariant.2 f p q v) k ((let it : c.loop-n.n ≡ suc (c.loop-n.n - 1) = omega (arith, c.loop-n-test.true) in it)) c.place_in-other.result c.place_in-other.ensures c.place_in-rest.result c.place_in-rest.ensures ((let it : c.args.from + 3 * (c.loop-n.n - 1) + 3 ≤ length c.loop-n.room = omega (arith, c.loop-n-test.true, c.loop-n.invariant.1, c.requires.2, ap length c.loop-n.invariant.0) in it)) (λ e. c.if-x-ne15.true (mark_in ((let it : List ℕ = c.args.b.now in it)) c.place_in-other.result ∙ e)) c.term_len.result ((let it : Past ((let it : List ℕ = c.args.b.now in it)) c.term_len.result c.place_in-other.result = λ x. c.term_len.ensures Mode.pattern (at_part ((let it : List ℕ = c.args.b.now in it)) c.place_in-other.result x) in it))));
-  goes = (λ u. goes_on ((let it : List ℕ = c.args.b.now in it)) c.go_on.result c.place_in-rest.result ((let it : ℕ = c.place_in-other.result + c.term_len.result in it)) c.args.fuel c.loop-n.n c.go_on.ensures ((let it : TermsAt Mode.pattern (drop c.place_in-rest.result ((let it : List ℕ = c.args.b.now in it))) = failing-rest ((let it : Failing ((let it : List ℕ = c.args.b.now in it)) c.loop-n.room c.args.from c.requires.0.fuel c.requires.0.left c.requires.0.right c.loop-n.n c.args.fuel = let s = c.requires.0 in c.loop-n.invariant.2 s.fuel s.left s.right s.failing in it)) (c.loop-n.n - 1) ((let it : c.loop-n.n ≡ suc (c.loop-n.n - 1) = omega (arith, c.loop-n-test.true) in it)) c.place_in-rest.result c.place_in-rest.ensures in it)) at, omega (arith, ap (λ (t : Turn). t.height) c.go_on.ensures, c.loop-n.invariant.1));
-  keeps = kept_less (omega arith) ((let it : Kept ((let it : ℕ = c.args.from + 3 * (c.loop-n.n - 1) in it)) c.args.room.now ((let it : List ℕ = c.put_split.new.room in it)) = subst (λ (m : List ℕ). Kept ((let it : ℕ = c.args.from + 3 * (c.loop-n.n - 1) in it)) m ((let it : List ℕ = c.put_split.new.room in it))) c.loop-n.invariant.0
-      (subst (λ (m : List ℕ). Kept ((let it : ℕ = c.args.from + 3 * (c.loop-n.n - 1) in it)) c.loop-n.room m) (sym c.put_split.ensures) (split_kept c.loop-n.room ((let it : ℕ = c.args.from + 3 * (c.loop-n.n - 1) in it)) c.place_in-rest.result ((let it : ℕ = c.place_in-other.result + c.term_len.result in it)) c.args.fuel)) in it));
-}
+returns-then-x-ne15 c =
+    let values : List ℕ = c.args.b.now in
+    let failing : Failing values c.loop-k.room c.args.from c.requires.0.fuel c.requires.0.left c.requires.0.right c.loop-k.k c.args.fuel = let s = c.requires.0 in c.loop-k.invariant.2 s.fuel s.left s.right s.failing in
+    let same : c.loop-k.k ≡ suc (c.loop-k.k - 1) = omega (arith, c.loop-k-test.true) in
+    let terms_at : TermsAt Mode.pattern (drop c.split_in-split.result.other values) = failing-other failing (c.loop-k.k - 1) same c.split_in-split.result.other c.split_in-split.ensures.1 in
+    let past : Past values c.term_len.result c.split_in-split.result.other = λ x. c.term_len.ensures Mode.pattern (at_part values c.split_in-split.result.other x) in
+    let fact : ℕ = c.split_in-split.result.other + c.term_len.result in
+    let within : c.args.from + 3 * (c.loop-k.k - 1) + 3 ≤ length c.loop-k.room = omega (arith, c.loop-k-test.true, c.loop-k.invariant.1, c.requires.2, ap length c.loop-k.invariant.0) in
+    let the_terms_at : TermsAt Mode.pattern (drop c.split_in-split.result.rest values) = failing-rest failing (c.loop-k.k - 1) same c.split_in-split.result.rest c.split_in-split.ensures.0 in
+    let fact_2 : ℕ = c.args.from + 3 * (c.loop-k.k - 1) in
+    let the_values : List ℕ = c.put_split.new.room in
+    let kept : Kept fact_2 c.args.room.now the_values = subst (λ (m : List ℕ). Kept fact_2 m the_values) c.loop-k.invariant.0
+    (subst (λ (m : List ℕ). Kept fact_2 c.loop-k.room m) (sym c.put_split.ensures) (split_kept c.loop-k.room fact_2 c.split_in-split.result.rest fact c.args.fuel)) in
+    let k = c.loop-k.k - 1 in let at = after_term values c.split_in-split.result.other c.term_len.result terms_at (past terms_at) in record {
+      turns = λ f p q v. subst (λ (h : ℕ). Trail c.args.b.now c.put_split.new.room c.args.from f p q h c.args.fuel c.split_in-split.result.rest (c.split_in-split.result.other + c.term_len.result)) (let e : c.loop-k.k ≡ c.loop-k.k - 1 + 1 = omega (arith, c.loop-k-test.true) in e)
+          (subst (λ (m : List ℕ). Trail values m c.args.from f p q c.loop-k.k c.args.fuel c.split_in-split.result.rest fact) (sym c.put_split.ensures)
+          (failing-next (c.loop-k.invariant.2 f p q v) k same c.split_in-split.result.other c.split_in-split.ensures.1 c.split_in-split.result.rest c.split_in-split.ensures.0 within (λ e. c.if-x-ne15.true (mark_in values c.split_in-split.result.other ∙ e)) c.term_len.result past));
+      goes = ((record { first = the_terms_at; second = at }, refl), omega (arith, c.loop-k-test.true, c.loop-k.invariant.1));
+      keeps = kept_less (omega arith) kept;
+    }
 
-pub loop-n-smaller : goal.loop-n-smaller
-loop-n-smaller c = omega (arith, c.loop-n-test.true)
-
-pub loop-n-preserved : goal.loop-n-preserved
-loop-n-preserved c =
-    (c.loop-n.invariant.0, omega (arith, c.loop-n.invariant.1), λ f p q v. failing-last (c.loop-n.invariant.2 f p q v) (c.loop-n.n - 1) ((let it : c.loop-n.n ≡ suc (c.loop-n.n - 1) = omega (arith, c.loop-n-test.true) in it)) c.place_in-other.result c.place_in-other.ensures (sym (mark_in ((let it : List ℕ = c.args.b.now in it)) c.place_in-other.result) ∙ c.if-x-ne15.false))
+pub loop-k-preserved : goal.loop-k-preserved
+loop-k-preserved c =
+    let same : c.loop-k.k ≡ suc (c.loop-k.k - 1) = omega (arith, c.loop-k-test.true) in
+    let values : List ℕ = c.args.b.now in
+    (c.loop-k.invariant.0, omega (arith, c.loop-k.invariant.1), λ f p q v. failing-last (c.loop-k.invariant.2 f p q v) (c.loop-k.k - 1) same c.split_in-split.result.other c.split_in-split.ensures.1 (sym (mark_in values c.split_in-split.result.other) ∙ c.if-x-ne15.false))
 
 pub shape_of-room : goal.shape_of-room
-shape_of-room c = ap length c.loop-n.invariant.0
+shape_of-room c = ap length c.loop-k.invariant.0
 
 pub returns : goal.returns
-returns c = record { turns = λ f p q v. turned_stop c.stop.result c.stop.ensures; goes = (goes_not ((let it : List ℕ = c.args.b.now in it)) c.stop.result 0 c.stop.ensures, omega (arith, ap (λ (t : Turn). t.height) c.stop.ensures)); keeps = subst (λ (m : List ℕ). Kept c.args.from c.args.room.now m) (sym c.loop-n.invariant.0) (kept_same c.args.from c.args.room.now) }
+unfolding in_turn
+returns c = record { turns = λ f p q v. way-any; goes = (tt, omega arith); keeps = subst (λ (m : List ℕ). Kept c.args.from c.args.room.now m) (sym c.loop-k.invariant.0) (kept_same c.args.from c.args.room.now) }

@@ -4,8 +4,5 @@ use mathlib.Core.Path.{◌≡◌}
 use Rattle.overlap.specs.Way.{Failing}
 use Rattle.overlap.proofs.way.next_end.Given as goal
 
-abbrev pub invariant-loop-n : goal.invariant-loop-n
-invariant-loop-n l = (l.room ≡ l.initial.room) × (l.n ≤ l.height) × ((f p q : ℕ) → Failing l.b l.initial.room l.from f p q l.height l.fuel → Failing l.b l.room l.from f p q l.n l.fuel)
-
-abbrev pub decreases-loop-n : goal.decreases-loop-n
-decreases-loop-n l = l.n
+abbrev pub invariant-loop-k : goal.invariant-loop-k
+invariant-loop-k l = (l.room ≡ l.initial.room) × (l.k ≤ l.height) × ((f p q : ℕ) → Failing l.b l.initial.room l.from f p q l.height l.fuel → Failing l.b l.room l.from f p q l.k l.fuel)

@@ -5,7 +5,7 @@ use mathlib.Core.Logic.{inl, inr}
 use Rattle.overlap.proofs.way.open_split.Goals as goal
 
 pub returns-then-room-at : goal.returns-then-room-at
-returns-then-room-at c = inr (c.stop.ensures, refl)
+returns-then-room-at c = inr (refl, refl)
 
 pub returns : goal.returns
-returns c = inl (c.go_on.ensures, c.put_split.ensures, omega arith)
+returns c = inl (refl, c.put_split.ensures, omega arith)

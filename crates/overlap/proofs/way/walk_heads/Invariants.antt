@@ -5,6 +5,3 @@ use Rattle.overlap.proofs.way.walk_heads.Given as goal
 
 abbrev pub invariant-loop-f : goal.invariant-loop-f
 invariant-loop-f l = Kept l.from l.initial.room l.room × Onward l.b l.fuel l.left l.right l.f l.i l.j
-
-abbrev pub decreases-loop-f : goal.decreases-loop-f
-decreases-loop-f l = l.f

@@ -1,17 +1,22 @@
--- `overlap::way::flat_verdict` meets its contract: each answer follows the two marks.
+-- `rows::terms::flat_verdict` meets its contract: each answer follows the two marks.
 use Prim.Native.Nat.{◌<◌}
 use native.Mathlib.Omega.{arith}
 use mathlib.Core.Path.{sym, ap, ◌∙◌}
 use lib.ListN.{length}
 use Rattle.patterns.specs.Search.{literal_overlap}
 use Rattle.rows.proofs.Heads.{head-room, literal-at, first_bracket_low, first_bracket_high, second_bracket_low, second_bracket_high, first-variable, second-variable, two_literals}
-use Rattle.overlap.proofs.way.flat_verdict.Goals as goal
+use Rattle.rows.proofs.terms.flat_verdict.Goals as goal
+use Rattle.rows.proofs.terms.flat_verdict.Goals.{then-m-gt3-via-then-m-gt3, then-m-gt3-via-else-m-gt3+then-n-gt3}
 
 pub bounds-left-0 : goal.bounds-left-0
-bounds-left-0 c = omega (arith, (let it : 9 < length c.args.left.now = head-room c.requires.0 in it))
+bounds-left-0 c =
+    let below : 9 < length c.args.left.now = head-room c.requires.0 in
+    omega (arith, below)
 
 pub bounds-right-0 : goal.bounds-right-0
-bounds-right-0 c = omega (arith, (let it : 9 < length c.args.right.now = head-room c.requires.1 in it))
+bounds-right-0 c =
+    let below : 9 < length c.args.right.now = head-room c.requires.1 in
+    omega (arith, below)
 
 pub returns-then-n-lt5 : goal.returns-then-n-lt5
 returns-then-n-lt5 c = λ x y. sym (first_bracket_low x y c.if-m-eq7.true (omega (arith, c.if-n-lt5.true)))
@@ -26,10 +31,10 @@ pub returns-then-n-eq7 : goal.returns-then-n-eq7
 returns-then-n-eq7 c = λ x y. sym (second_bracket_high x y c.if-n-eq7.true c.if-m-eq7.false (omega (arith, c.if-m-lt5.false)))
 
 pub returns-then-m-gt3 : goal.returns-then-m-gt3
-returns-then-m-gt3 c = λ x y. sym (first-variable x y c.if-m-eq7.false c.if-n-eq7.false (omega (arith, c.if-m-gt3.true)))
-
-pub returns-then-n-gt3 : goal.returns-then-n-gt3
-returns-then-n-gt3 c = λ x y. sym (second-variable x y c.if-m-eq7.false c.if-n-eq7.false (omega (arith, c.if-n-gt3.true)))
+returns-then-m-gt3 c = λ x y. elim c.then-m-gt3.branch [
+  | then-m-gt3-via-then-m-gt3 w ↦ sym (first-variable x y c.if-m-eq7.false c.if-n-eq7.false (omega (arith, w.if-m-gt3.true)))
+  | then-m-gt3-via-else-m-gt3+then-n-gt3 w ↦ sym (second-variable x y c.if-m-eq7.false c.if-n-eq7.false (omega (arith, w.if-n-gt3.true)))
+]
 
 -- Both marks are those of literals.
 pub same_symbol-requires : goal.same_symbol-requires

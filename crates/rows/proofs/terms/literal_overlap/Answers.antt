@@ -1,6 +1,6 @@
--- `overlap::literal_overlap` meets its contract.
+-- `rows::terms::literal_overlap` meets its contract.
 use Rattle.patterns.specs.Search.{literal_overlap}
-use Rattle.overlap.proofs.literal_overlap.Goals as goal
+use Rattle.rows.proofs.terms.literal_overlap.Goals as goal
 
 pub returns-then-equal : goal.returns-then-equal
 unfolding literal_overlap

@@ -1,11 +1,11 @@
 -- Laws of emission.
-use Prim.Native.Nat.{ℕ, suc, ◌+◌, ◌≤◌, ◌<◌}
+use Prim.Native.Nat.{ℕ, zero, suc, ◌+◌, ◌≤◌, ◌<◌}
 use native.Mathlib.Omega.{arith}
 use mathlib.Core.Path.{◌≡◌, refl, sym, ap, subst, ◌∙◌}
-use mathlib.Core.List.{List, [], ◌∷◌, ◌++◌}
-use native.Mathlib.Numerals.{add-one}
-use lib.ListN.{length, get_or, take, drop, set, length-append}
-use lib.Seq.{sets, length-sets, sets-eq, set_out, take-suc}
+use mathlib.Core.List.{List, [], ◌∷◌, ◌++◌, append_assoc}
+use lib.ListN.{length, take, drop, set, length-set, length-append}
+use borrow.Rule.Slice.PartMut.{put_mid}
+use lib.Seq.{drop-drop, length-take-le, sets, length-sets, sets-eq, set_out}
 use Rattle.meaning.specs.Text.{Text}
 use Rattle.text.specs.Fill.{filled, Emitted}
 
@@ -23,6 +23,20 @@ unfolding filled
 filled-append [] y s p = ap (λ (q : ℕ). filled s q y) (omega arith)
 filled-append (b ∷ x) y s p = filled-append x y (set s p b) (suc p) ∙ ap (λ (q : ℕ). filled (filled (set s p b) (suc p) x) q y) (omega arith)
 
+-- Behind the end nothing is written.
+pub filled-out : (t : Text) (s : List ℕ) (p : ℕ) → length s ≤ p → filled s p t ≡ s
+unfolding filled
+filled-out [] s p h = refl
+filled-out (b ∷ t) s p h = ap (λ (l : List ℕ). filled l (suc p) t) (set_out s p b h) ∙ filled-out t s (suc p) (omega arith)
+
+-- Nor what is past the n bytes that fit.
+filled_front : (t : Text) (s : List ℕ) (p n : ℕ) → (n < length t → length s ≤ p + n) → filled s p t ≡ filled s p (take n t)
+unfolding filled
+filled_front [] s p zero h = refl
+filled_front [] s p (suc n) h = refl
+filled_front (b ∷ t) s p zero h = filled-out (b ∷ t) s p (omega (arith, h (omega arith)))
+filled_front (b ∷ t) s p (suc n) h = filled_front t (set s p b) (suc p) n (λ l. omega (arith, h (omega arith), length-set s p b))
+
 -- Into an empty part nothing is written.
 pub filled-empty : (t : Text) (p : ℕ) → filled [] p t ≡ []
 unfolding filled
@@ -32,6 +46,15 @@ filled-empty (b ∷ t) p = ap (λ (l : List ℕ). filled l (suc p) t) (set_out [
 -- A text that fits stands at its place, and all else is as before.
 pub filled-fits : (s : List ℕ) (p : ℕ) (t : Text) → p + length t ≤ length s → filled s p t ≡ take p s ++ t ++ drop (p + length t) s
 filled-fits s p t h = filled_sets t s p ∙ sets-eq t s p h
+
+-- n bytes are copied to p: all, or as many as fit.
+pub filled_copied : (t : Text) (s : List ℕ) (p n : ℕ) (copied : List ℕ) → p + n ≤ length s → n ≤ length t → (n < length t → length s ≤ p + n) → copied ≡ take n t → put_mid p n s copied ≡ filled s p t
+filled_copied t s p n copied h k l e =
+    let m : length (take n t) ≡ n = length-take-le n t k in
+    ap (λ (x : List ℕ). take p s ++ (x ++ drop n (drop p s))) e
+    ∙ (ap (λ (x : List ℕ). take p s ++ (take n t ++ x)) (drop-drop n p s ∙ ap (λ (q : ℕ). drop (p + q) s) (sym m))
+    ∙ (sym (append_assoc (take p s) (take n t) (drop (p + length (take n t)) s))
+    ∙ (sym (filled-fits s p (take n t) (omega (arith, m))) ∙ sym (filled_front t s p n l))))
 
 -- From the start on.
 pub filled-start : (s : List ℕ) (t : Text) → length t ≤ length s → filled s 0 t ≡ t ++ drop (length t) s
@@ -55,10 +78,3 @@ emitted-same {s} {b} {p} {r} e h = subst (λ (t : Text). Emitted s p t r b) e h
 
 pub emitted-length : {s b : List ℕ} {p r : ℕ} {x : Text} → Emitted s p x r b → length b ≡ length s
 emitted-length {s} {b} {p} {r} {x} e = ap length e.left ∙ filled-length s p x
-
--- One byte more of a text.
-pub next_byte : {s b d : List ℕ} {p r : ℕ} (t : Text) (i : ℕ) → i < length t → Emitted s p (take i t) (p + i) b → Emitted b (p + i) (get_or t i 0 ∷ []) r d → Emitted s p (take (i + 1) t) (p + (i + 1)) d
-next_byte {s} {b} {d} {p} {r} t i h e f =
-    let z : take i t ++ (get_or t i 0 ∷ []) ≡ take (i + 1) t = sym (ap (λ (n : ℕ). take n t) (add-one i) ∙ take-suc t i 0 h) in
-    let g = emitted-same z (emitted-append (take i t) (get_or t i 0 ∷ []) e f) in
-    record { after = omega (arith, f.after, g.after); left = g.left }

@@ -1,5 +1,5 @@
 -- The terms of a pattern in an image, by their first mark, and their texts.
-use Prim.Native.Nat.{ℕ, suc, ◌+◌, ◌≤◌, ◌<◌}
+use Prim.Native.Nat.{ℕ, suc, ◌+◌, ◌-◌, ◌≤◌, ◌<◌}
 use native.Mathlib.Omega.{arith}
 use mathlib.Core.Path.{◌≡◌, refl, sym, ap, ◌∙◌}
 use mathlib.Core.List.{List, [], ◌∷◌, ◌++◌, append_assoc}
@@ -18,12 +18,14 @@ use Rattle.image.proofs.Readings.{first_byte, fewer_around}
 use Rattle.patterns.specs.Ascii.{ascii}
 use Rattle.symbols.specs.Parts.{SymbolAt}
 use Rattle.symbols.proofs.Parts.{part_rest}
-use Rattle.rows.proofs.Readings.{part, first-at, next-at}
+use Rattle.rows.proofs.Readings.{part, part_length, pattern-room, first-at, next-at, next_fits}
 use Rattle.meaning.specs.Text.{Text, quote, utf8, format_symbol, format_kind, gap, format_terms}
 use Rattle.text.specs.Parts.{VariableAt}
 use Rattle.text.specs.FormatTerm.{format_term, gap_before}
-use Rattle.text.specs.Fill.{Emitted}
-use Rattle.text.proofs.Fill.{emitted-nothing, emitted-append, emitted-same}
+use Rattle.text.specs.Written.{written}
+use Rattle.text.specs.declared.writer.Writer.{Writer}
+use Rattle.text.proofs.Written.{both, count, written-nothing}
+use Rattle.text.specs.Fill.{limit}
 use Rattle.text.proofs.Leaves.{utf8-length, quote-length}
 
 -- The first term's text, and then that of the rest.
@@ -206,31 +208,40 @@ gap_before-length m = go (eqb m 15)
     go true = omega arith
     go false = omega arith
 
-part_first : (s : List ℕ) (i : ℕ) → get_or (part s i) 0 0 ≡ get_or s i 0
+pub part_first : (s : List ℕ) (i : ℕ) → get_or (part s i) 0 0 ≡ get_or s i 0
 part_first s i = ap (λ (l : List ℕ). get_or l 0 0) (part_rest s i) ∙ (get_or-drop i s 0 0 ∙ ap (λ (n : ℕ). get_or s n 0) (add-zero i))
 
--- The terms left from i on: their text, written at this place, completes that of all.
-pub record Writing (bytes : List ℕ) (p : ℕ) {s : List ℕ} (t : TermsAt Mode.pattern s) (i : ℕ) (out : List ℕ) (place : ℕ) : Type 0 where
+-- The terms left from i on: their text, written behind what is filled, completes that of all.
+pub record Writing (first : Writer) {s : List ℕ} (t : TermsAt Mode.pattern s) (i : ℕ) (now : Writer) : Type 0 where
   pub there : TermsAt Mode.pattern (part s i)
-  pub whole : (r : ℕ) (d : List ℕ) → Emitted out place (format_terms there.terms) r d → Emitted bytes p (format_terms t.terms) r d
+  pub whole : written now (format_terms there.terms) ≡ written first (format_terms t.terms)
 
-pub writing-first : (bytes : List ℕ) (p : ℕ) {s : List ℕ} (t : TermsAt Mode.pattern s) → Writing bytes p t 0 bytes p
-writing-first bytes p t = record { there = first-at t; whole = λ r d e. e }
+pub writing-first : (first : Writer) {s : List ℕ} (t : TermsAt Mode.pattern s) → Writing first t 0 first
+writing-first first t = record { there = first-at t; whole = refl }
 
-module _ {bytes : List ℕ} {p : ℕ} {s : List ℕ} {t : TermsAt Mode.pattern s} {i : ℕ} {out : List ℕ} {place : ℕ} (w : Writing bytes p t i out place) where
-  pub writing-last : get_or (part s i) 0 0 ≡ 15 → Emitted bytes p (format_terms t.terms) place out
-  writing-last m = w.whole place out (emitted-same (sym (nothing_in w.there m)) (emitted-nothing out place))
+module _ {first : Writer} {s : List ℕ} {t : TermsAt Mode.pattern s} {i : ℕ} {now : Writer} (w : Writing first t i now) where
+  pub writing-last : get_or s i 0 ≡ 15 → now ≡ written first (format_terms t.terms)
+  writing-last m = written-nothing now ∙ (ap (written now) (sym (nothing_in w.there (part_first s i ∙ m))) ∙ w.whole)
 
-  pub writing-next : (n q r : ℕ) (d b : List ℕ) → Passes (part s i) n (put_terms (tail w.there.terms) w.there.rest) → Emitted out place (format_term w.there.terms) q d → Emitted d q (gap_before (get_or s (i + n) 0)) r b
-      → Writing bytes p t (i + n) b r
-  writing-next n q r d b h f g =
+  pub writing-next : (n : ℕ) (next after : Writer) → Passes (part s i) n (put_terms (tail w.there.terms) w.there.rest) → next ≡ written now (format_term w.there.terms) → after ≡ written next (gap_before (get_or s (i + n) 0)) → Writing first t (i + n) after
+  writing-next n next after h e f =
       let x = w.there in
       let y : TermsAt Mode.pattern (part s (i + n)) = next-at s i x n h in
-      let e : gap_before (get_or s (i + n) 0) ≡ gap (tail x.terms) = ap gap_before (sym (part_first s (i + n))) ∙ gap_in y in
-      record {
-        there = y;
-        whole = λ k c z. w.whole k c
-            (emitted-same (format_unfolds x.terms 0 x.valid)
-            (emitted-append (format_term x.terms) (gap (tail x.terms) ++ format_terms (tail x.terms)) f
-            (emitted-append (gap (tail x.terms)) (format_terms (tail x.terms)) (emitted-same e g) z)));
-      }
+      let g : gap_before (get_or s (i + n) 0) ≡ gap (tail x.terms) = ap gap_before (sym (part_first s (i + n))) ∙ gap_in y in
+      let rest = format_terms (tail x.terms) in
+      let k : written after rest ≡ written now (format_term x.terms ++ (gap (tail x.terms) ++ rest)) = both now (format_term x.terms) (gap (tail x.terms) ++ rest) e (both next (gap (tail x.terms)) rest (f ∙ ap (written next) g) refl) in
+      record { there = y; whole = k ∙ (ap (written now) (format_unfolds x.terms 0 x.valid) ∙ w.whole) }
+
+-- Past a term of n bytes, whose text is shorter.
+pub record Past (s : List ℕ) (i n : ℕ) (next : Writer) : Type 0 where
+  pub more : i + n < length s
+  pub on : 0 < n
+  pub short : next.filled + 1 + (length s - (i + n)) ≤ limit
+
+pub past : {first : Writer} {s : List ℕ} {t : TermsAt Mode.pattern s} {i : ℕ} {now : Writer} (w : Writing first t i now) → (get_or s i 0 ≡ 15 → ⊥) → i < length s → now.filled + (length s - i) ≤ limit → (n : ℕ) (next : Writer) → Passes (part s i) n (put_terms (tail w.there.terms) w.there.rest) → next ≡ written now (format_term w.there.terms) → Past s i n next
+past {first} {s} {t} {i} {now} w m l h n next p e =
+    let x = w.there in
+    let k : get_or (part s i) 0 0 ≡ 15 → ⊥ = λ q. m (sym (part_first s i) ∙ q) in
+    let f = next_fits s i x k (omega arith) n p in
+    let more : i + n < length s = omega (arith, f.0, pattern-room (next-at s i x n p), part_length s (i + n)) in
+    record { more = more; on = f.1; short = omega (arith, ap count e, term_text_fits x k n p, more) }

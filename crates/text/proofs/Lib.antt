@@ -1,6 +1,6 @@
 pub mod Fill
+pub mod Written
 pub mod Codes
 pub mod Leaves
-pub mod Held
 pub mod Pieces
 pub mod Formatting

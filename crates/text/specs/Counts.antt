@@ -4,6 +4,10 @@ use Rattle.patterns.specs.Ascii.{ascii}
 use Rattle.meaning.specs.Text.{Text}
 use Rattle.meaning.specs.Decimal.{decimal}
 
+-- Above any number of a report, none of which has more than 17 digits.
+abbrev pub most : ℕ
+most = 100000000000000000
+
 -- A number after its label.
 unfoldable pub counted : Text → ℕ → Text
 counted label n = label ++ decimal n

@@ -1,102 +1,99 @@
 // The report's lines with numbers: those before the lists, the one behind them, and all of a program that is left alone.
-ghost use Rattle.std.specs.Prelude.{◌+◌, ◌<◌, ◌≤◌, length};
-ghost use Rattle.text.specs.Fill.{Emitted, limit};
-ghost use Rattle.text.specs.Counts.{counted, count_line, top_text, unchanged_text, untested_text, graph_text};
+ghost use Rattle.std.specs.Prelude.{◌≡◌, ◌+◌, ◌<◌, ◌≤◌, length};
+ghost use Rattle.text.specs.Fill.{limit};
+ghost use Rattle.text.specs.Counts.{most, counted, count_line, top_text, unchanged_text, graph_text};
+ghost use Rattle.text.specs.Written.{written};
 
-use crate::emit::{put_byte, put_bytes, put_decimal};
+use crate::writer::Writer;
 
-// A number after its label.
-fn put_counted(out: &mut [u8], at: usize, label: &[u8], n: usize) -> usize
-    requires { (n < 100000000000000000) × (at + length label.now + 17 ≤ limit) }
-    ensures { Emitted out.old at (counted label.now n) result out.new × (result ≤ at + length label.now + 17) }
-{
-    let number = put_bytes(out, at, label);
-    put_decimal(out, number, n)
+// The numbers before the first list.
+#[derive(Clone, Copy)]
+pub struct Top {
+    pub functions: usize,
+    pub before: usize,
+    pub after: usize,
+    pub rounds: usize,
+    pub removed: usize,
+    ghost few: { (functions < most) × (before < most) × (after < most) × (rounds < most) × (removed < most) },
 }
 
-// The same on a line of its own.
-pub fn put_count_line(out: &mut [u8], at: usize, label: &[u8], n: usize) -> usize
-    requires { (n < 100000000000000000) × (at + length label.now + 18 ≤ limit) }
-    ensures { Emitted out.old at (count_line label.now n) result out.new × (result ≤ at + length label.now + 18) }
-{
-    let end = put_counted(out, at, label, n);
-    put_byte(out, end, 10)
+// The numbers of the verdict.
+#[derive(Clone, Copy)]
+pub struct Graph {
+    pub functions: usize,
+    pub undecided: usize,
+    pub uncovered: usize,
+    pub uncharacterised: usize,
+    ghost few: { (functions < most) × (undecided < most) × (uncovered < most) × (uncharacterised < most) },
 }
 
-// The lines before the first list.
-pub fn put_top(
-    out: &mut [u8],
-    at: usize,
-    functions: usize,
-    before: usize,
-    after: usize,
-    rounds: usize,
-    removed: usize,
-) -> usize
-    requires { (functions < 100000000000000000) × (before < 100000000000000000) × (after < 100000000000000000) × (rounds < 100000000000000000) × (removed < 100000000000000000) × (at + 150 ≤ limit) }
-    ensures { Emitted out.old at (top_text functions before after rounds removed) result out.new × (result ≤ at + 150) }
-{
-    let first = put_counted(out, at, b"functions: ", functions);
-    let second = put_counted(out, first, b"\nsentences: ", before);
-    let third = put_counted(out, second, b" -> ", after);
-    let fourth = put_counted(out, third, b"\nrounds: ", rounds);
-    put_count_line(out, fourth, b"\nremoved: ", removed)
-}
-
-// The verdict, of a program that is cleaned and has uncharacterised functions.
-fn put_untested(
-    out: &mut [u8],
-    at: usize,
-    undecided: usize,
-    uncovered: usize,
-    uncharacterised: usize,
-) -> usize
-    requires { (undecided < 100000000000000000) × (uncovered < 100000000000000000) × (uncharacterised < 100000000000000000) × (at + 120 ≤ limit) }
-    ensures { Emitted out.old at (untested_text undecided uncovered uncharacterised) result out.new }
-{
-    let first = put_counted(out, at, b"graph: clean (undecided ", undecided);
-    let second = put_counted(out, first, b", uncovered ", uncovered);
-    let third = put_counted(out, second, b", uncharacterised ", uncharacterised);
-    put_bytes(out, third, b")\n")
-}
-
-// The verdict, of a program that is cleaned.
-pub fn put_graph(
-    out: &mut [u8],
-    at: usize,
-    functions: usize,
-    undecided: usize,
-    uncovered: usize,
-    uncharacterised: usize,
-) -> usize
-    requires { (functions < 100000000000000000) × (undecided < 100000000000000000) × (uncovered < 100000000000000000) × (uncharacterised < 100000000000000000) × (at + 120 ≤ limit) }
-    ensures { Emitted out.old at (graph_text functions undecided uncovered uncharacterised) result out.new }
-{
-    if functions == 0 {
-        return put_bytes(out, at, b"graph: empty\n");
+impl<'a> Writer<'a> {
+    // A number after its label.
+    fn put_counted(&mut self, label: &[u8], n: usize)
+        requires { (n < most) × (self.old.filled + length label.now + 17 ≤ limit) }
+        ensures written { self.new ≡ written self.old (counted label.now n) }
+        ensures short { self.new.filled ≤ self.old.filled + length label.now + 17 }
+    {
+        self.put_bytes(label);
+        self.put_decimal(n);
     }
-    if 0 < uncharacterised {
-        return put_untested(out, at, undecided, uncovered, uncharacterised);
-    }
-    if undecided + uncovered == 0 {
-        return put_bytes(out, at, b"graph: perfect\n");
-    }
-    let first = put_counted(out, at, b"graph: clean (undecided ", undecided);
-    let second = put_counted(out, first, b", uncovered ", uncovered);
-    put_bytes(out, second, b")\n")
-}
 
-// All lines of a program with a call of Mu or Up, which is left alone.
-pub fn put_unchanged(out: &mut [u8], at: usize, functions: usize, sentences: usize) -> usize
-    requires { (functions < 100000000000000000) × (sentences < 100000000000000000) × (at + 300 ≤ limit) }
-    ensures { Emitted out.old at (unchanged_text functions sentences) result out.new }
-{
-    let first = put_top(out, at, functions, sentences, sentences, 0, 0);
-    let second = put_count_line(out, first, b"undecided: ", 0);
-    let third = put_count_line(out, second, b"uncovered: ", 0);
-    put_bytes(
-        out,
-        third,
-        b"dynamic-dispatch: yes (nothing cleaned)\ngraph: unknown\n",
-    )
+    // The same on a line of its own.
+    pub fn put_count_line(&mut self, label: &[u8], n: usize)
+        requires { (n < most) × (self.old.filled + length label.now + 18 ≤ limit) }
+        ensures written { self.new ≡ written self.old (count_line label.now n) }
+        ensures short { self.new.filled ≤ self.old.filled + length label.now + 18 }
+    {
+        self.put_counted(label, n);
+        self.put_byte(b'\n');
+    }
+
+    // The lines before the first list.
+    pub fn put_top(&mut self, top: Top)
+        requires { self.old.filled + 150 ≤ limit }
+        ensures written { self.new ≡ written self.old (top_text top.functions top.before top.after top.rounds top.removed) }
+        ensures short { self.new.filled ≤ self.old.filled + 150 }
+    {
+        self.put_counted(b"functions: ", top.functions);
+        self.put_counted(b"\nsentences: ", top.before);
+        self.put_counted(b" -> ", top.after);
+        self.put_counted(b"\nrounds: ", top.rounds);
+        self.put_count_line(b"\nremoved: ", top.removed);
+    }
+
+    // The verdict, of a program that is cleaned.
+    pub fn put_graph(&mut self, graph: Graph)
+        requires { self.old.filled + 120 ≤ limit }
+        ensures { self.new ≡ written self.old (graph_text graph.functions graph.undecided graph.uncovered graph.uncharacterised) }
+    {
+        if graph.functions == 0 {
+            return self.put_bytes(b"graph: empty\n");
+        }
+        if graph.undecided + graph.uncovered + graph.uncharacterised == 0 {
+            return self.put_bytes(b"graph: perfect\n");
+        }
+        self.put_counted(b"graph: clean (undecided ", graph.undecided);
+        self.put_counted(b", uncovered ", graph.uncovered);
+        if 0 < graph.uncharacterised {
+            self.put_counted(b", uncharacterised ", graph.uncharacterised);
+        }
+        self.put_bytes(b")\n");
+    }
+
+    // All lines of a program with a call of Mu or Up, which is left alone.
+    pub fn put_unchanged(&mut self, functions: usize, sentences: usize)
+        requires { (functions < most) × (sentences < most) × (self.old.filled + 300 ≤ limit) }
+        ensures { self.new ≡ written self.old (unchanged_text functions sentences) }
+    {
+        self.put_top(Top {
+            functions,
+            before: sentences,
+            after: sentences,
+            rounds: 0,
+            removed: 0,
+        });
+        self.put_count_line(b"undecided: ", 0);
+        self.put_count_line(b"uncovered: ", 0);
+        self.put_bytes(b"dynamic-dispatch: yes (nothing cleaned)\ngraph: unknown\n");
+    }
 }

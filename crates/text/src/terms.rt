@@ -5,108 +5,109 @@ ghost use Rattle.program.specs.Limits.{Mode};
 ghost use Rattle.image.specs.Parts.{TermsAt};
 ghost use Rattle.symbols.specs.Parts.{SymbolAt};
 ghost use Rattle.meaning.specs.Text.{quote, format_symbol, format_kind, format_terms};
-ghost use Rattle.text.specs.Fill.{Emitted, limit};
+ghost use Rattle.text.specs.Fill.{limit};
 ghost use Rattle.text.specs.Parts.{VariableAt};
 ghost use Rattle.text.specs.FormatTerm.{format_term, gap_before, kind_letter};
+ghost use Rattle.text.specs.Written.{written};
 
-use crate::emit::{put_byte, put_bytes, put_code};
+use crate::writer::Writer;
 use image::number::read32;
 use image::part::{name_part, term_len};
 
 pub fn quote_of(code: u32) -> u8
     ensures { result ∷ [] ≡ quote code }
 {
-    if code == 39 { 34 } else { 39 }
-}
-
-// A character between quotes.
-fn format_character(out: &mut [u8], at: usize, code: u32) -> usize
-    requires { (code ≤ 1114111) × (at + 6 ≤ limit) }
-    ensures { Emitted out.old at (format_symbol (character code)) result out.new }
-{
-    let q = quote_of(code);
-    let inside = put_byte(out, at, q);
-    let after = put_code(out, inside, code);
-    put_byte(out, after, q)
-}
-
-// The symbol at the start of s.
-fn format_symbol(out: &mut [u8], at: usize, s: &[u8]) -> usize
-    requires { SymbolAt s.now × (at + length s.now ≤ limit) }
-    ensures { (x : SymbolAt s.now) → Emitted out.old at (format_symbol x.symbol) result out.new }
-{
-    if s[0] == 1 {
-        return format_character(out, at, read32(s, 9));
+    if code == u32::from(b'\'') {
+        b'"'
+    } else {
+        b'\''
     }
-    put_bytes(out, at, name_part(&s[9..]))
 }
 
+#[tactic(auto, unfolding(crate::specs::FormatTerm::kind_letter))]
 pub fn kind_letter(mark: u8) -> u8
     ensures { result ≡ kind_letter mark }
 {
-    if mark == 4 {
-        return 115;
+    match mark {
+        4 => b's',
+        5 => b't',
+        _ => b'e',
     }
-    if mark == 5 {
-        return 116;
-    }
-    101
 }
 
-// The variable at the start of s.
-fn format_variable(out: &mut [u8], at: usize, s: &[u8]) -> usize
-    requires { VariableAt s.now × (at + length s.now ≤ limit) }
-    ensures { (x : VariableAt s.now) → Emitted out.old at (format_kind x.kind ++ x.name) result out.new }
-{
-    let dot = put_byte(out, at, kind_letter(s[0]));
-    let name = put_byte(out, dot, 46);
-    put_bytes(out, name, name_part(&s[9..]))
-}
-
-// A space, unless the mark that follows is the close.
-fn put_gap(out: &mut [u8], at: usize, mark: u8) -> usize
-    requires { at < limit }
-    ensures { Emitted out.old at (gap_before mark) result out.new }
-{
-    if mark == 15 {
-        return at;
+impl<'a> Writer<'a> {
+    // A character between quotes.
+    fn format_character(&mut self, code: u32)
+        requires { (code ≤ 1114111) × (self.old.filled + 6 ≤ limit) }
+        ensures { self.new ≡ written self.old (format_symbol (character code)) }
+    {
+        let q = quote_of(code);
+        self.put_byte(q);
+        self.put_code(code);
+        self.put_byte(q);
     }
-    put_byte(out, at, 32)
-}
 
-// The first of the terms at the start of s: not at their close.
-#[cycle(format_term_format_terms)]
-pub fn format_term(out: &mut [u8], at: usize, s: &[u8]) -> usize
-    requires { TermsAt Mode.pattern s.now × (get_or s.now 0 0 ≡ 15 → ⊥) × (at + length s.now ≤ limit) }
-    ensures { (t : TermsAt Mode.pattern s.now) → Emitted out.old at (format_term t.terms) result out.new }
-{
-    let m = s[0];
-    if m == 7 {
-        let inside = put_byte(out, at, 40);
-        let close = format_terms(out, inside, &s[9..]);
-        return put_byte(out, close, 41);
-    }
-    if m < 4 {
-        return format_symbol(out, at, s);
-    }
-    format_variable(out, at, s)
-}
-
-// The terms at the start of s, with a space between two.
-#[cycle(format_term_format_terms)]
-pub fn format_terms(out: &mut [u8], at: usize, s: &[u8]) -> usize
-    requires { TermsAt Mode.pattern s.now × (at + length s.now ≤ limit) }
-    ensures { (t : TermsAt Mode.pattern s.now) → Emitted out.old at (format_terms t.terms) result out.new }
-{
-    let mut i: usize = 0;
-    let mut place = at;
-    loop {
-        let x = &s[i..];
-        if x[0] == 15 {
-            return place;
+    // The symbol at the start of s.
+    fn format_symbol(&mut self, s: &[u8])
+        requires { SymbolAt s.now × (self.old.filled + length s.now ≤ limit) }
+        ensures { (x : SymbolAt s.now) → self.new ≡ written self.old (format_symbol x.symbol) }
+    {
+        if s[0] == 1 {
+            return self.format_character(read32(s, 9));
         }
-        place = format_term(out, place, x);
-        i += term_len(x);
-        place = put_gap(out, place, s[i]);
+        self.put_bytes(name_part(&s[9..]));
+    }
+
+    // The variable at the start of s.
+    fn format_variable(&mut self, s: &[u8])
+        requires { VariableAt s.now × (self.old.filled + length s.now ≤ limit) }
+        ensures { (x : VariableAt s.now) → self.new ≡ written self.old (format_kind x.kind ++ x.name) }
+    {
+        self.put_byte(kind_letter(s[0]));
+        self.put_byte(b'.');
+        self.put_bytes(name_part(&s[9..]));
+    }
+
+    // A space, unless the mark that follows is the close.
+    #[tactic(auto, unfolding(crate::specs::FormatTerm::gap_before))]
+    fn put_gap(&mut self, mark: u8)
+        requires { self.old.filled < limit }
+        ensures { self.new ≡ written self.old (gap_before mark) }
+    {
+        if mark != 15 {
+            self.put_byte(b' ');
+        }
+    }
+
+    // The first of the terms at the start of s: not at their close.
+    #[cycle(format_term_format_terms)]
+    pub fn format_term(&mut self, s: &[u8])
+        requires { TermsAt Mode.pattern s.now × (get_or s.now 0 0 ≡ 15 → ⊥) × (self.old.filled + length s.now ≤ limit) }
+        ensures { (t : TermsAt Mode.pattern s.now) → self.new ≡ written self.old (format_term t.terms) }
+    {
+        match s[0] {
+            7 => {
+                self.put_byte(b'(');
+                self.format_terms(&s[9..]);
+                self.put_byte(b')');
+            }
+            0..4 => self.format_symbol(s),
+            _ => self.format_variable(s),
+        }
+    }
+
+    // The terms at the start of s, with a space between two.
+    #[cycle(format_term_format_terms)]
+    pub fn format_terms(&mut self, s: &[u8])
+        requires { TermsAt Mode.pattern s.now × (self.old.filled + length s.now ≤ limit) }
+        ensures { (t : TermsAt Mode.pattern s.now) → self.new ≡ written self.old (format_terms t.terms) }
+    {
+        let mut i: usize = 0;
+        while s[i] != 15 {
+            let x = &s[i..];
+            self.format_term(x);
+            i += term_len(x);
+            self.put_gap(s[i]);
+        }
     }
 }

@@ -1,11 +1,11 @@
-// "the report's writing end, which holds the lent text": each `write_` function has a covered function
-// fill the slice from the number on, and moves the number on; each `with_` function is the same for a writer by value.
-ghost use Rattle.std.specs.Prelude.{◌≡◌, ◌+◌, ◌<◌, ◌≤◌};
-ghost use Rattle.text.specs.Counts.{top_text, unchanged_text, graph_text};
+// The report's writing end: a text is written behind what is filled, as far as the lent bytes go, and counted in any case.
+ghost use Rattle.std.specs.Prelude.{◌≡◌, [], ◌∷◌, ◌+◌, ◌<◌, ◌≤◌, length};
+ghost use Rattle.meaning.specs.Text.{utf8};
+ghost use Rattle.meaning.specs.Decimal.{decimal};
 ghost use Rattle.text.specs.Fill.{limit};
 ghost use Rattle.text.specs.Written.{written};
 
-use crate::counts::{put_graph, put_top, put_unchanged};
+use crate::emit::{lead_of_four, lead_of_three, lead_of_two, trail};
 
 #[derive(Drop)]
 pub struct Writer<'a> {
@@ -13,93 +13,58 @@ pub struct Writer<'a> {
     pub filled: usize,
 }
 
-// The lines before the first list.
-pub fn write_top<'a>(
-    w: &mut Writer<'a>,
-    functions: usize,
-    before: usize,
-    after: usize,
-    rounds: usize,
-    removed: usize,
-)
-    requires { (functions < 100000000000000000) × (before < 100000000000000000) × (after < 100000000000000000) × (rounds < 100000000000000000) × (removed < 100000000000000000) × (w.old.filled + 150 ≤ limit) }
-    ensures { (w.new ≡ written w.old (top_text functions before after rounds removed)) × (w.new.filled ≤ w.old.filled + 150) }
-{
-    let at = w.filled;
-    let next = put_top(&mut *w.text, at, functions, before, after, rounds, removed);
-    w.filled = next;
-}
+impl<'a> Writer<'a> {
+    // One byte, if its place is within the lent bytes.
+    pub fn put_byte(&mut self, b: u8)
+        requires { self.old.filled < limit }
+        ensures { self.new ≡ written self.old (b ∷ []) }
+    {
+        if self.filled < self.text.len() {
+            self.text[self.filled] = b;
+        }
+        self.filled += 1;
+    }
 
-// The same, of a writer by value; so are the other two below.
-pub fn with_top<'a>(
-    w: Writer<'a>,
-    functions: usize,
-    before: usize,
-    after: usize,
-    rounds: usize,
-    removed: usize,
-) -> Writer<'a>
-    requires { (functions < 100000000000000000) × (before < 100000000000000000) × (after < 100000000000000000) × (rounds < 100000000000000000) × (removed < 100000000000000000) × (w.filled + 150 ≤ limit) }
-    ensures { (result ≡ written w.entry (top_text functions before after rounds removed)) × (result.filled ≤ w.entry.filled + 150) }
-{
-    let mut all = w;
-    write_top(&mut all, functions, before, after, rounds, removed);
-    all
-}
+    // A text of bytes, of which as many are copied as fit.
+    pub fn put_bytes(&mut self, bytes: &[u8])
+        requires { self.old.filled + length bytes.now ≤ limit }
+        ensures { self.new ≡ written self.old bytes.now }
+    {
+        if self.filled < self.text.len() {
+            let end = self.text.len().min(self.filled + bytes.len());
+            self.text[self.filled..end].copy_from_slice(&bytes[..end - self.filled]);
+        }
+        self.filled += bytes.len();
+    }
 
-// The verdict, of a program that is cleaned.
-pub fn write_graph<'a>(
-    w: &mut Writer<'a>,
-    functions: usize,
-    undecided: usize,
-    uncovered: usize,
-    uncharacterised: usize,
-)
-    requires { (functions < 100000000000000000) × (undecided < 100000000000000000) × (uncovered < 100000000000000000) × (uncharacterised < 100000000000000000) × (w.old.filled + 120 ≤ limit) }
-    ensures { w.new ≡ written w.old (graph_text functions undecided uncovered uncharacterised) }
-{
-    let at = w.filled;
-    let end = put_graph(
-        &mut *w.text,
-        at,
-        functions,
-        undecided,
-        uncovered,
-        uncharacterised,
-    );
-    w.filled = end;
-}
+    // A character in UTF-8, by shifts and masks as document 01 has it.
+    pub fn put_code(&mut self, code: u32)
+        requires { (code ≤ 1114111) × (self.old.filled + 4 ≤ limit) }
+        ensures { self.new ≡ written self.old (utf8 code) }
+    {
+        match code {
+            0..128 => self.put_byte(code as u8),
+            128..2048 => self.put_bytes(&[lead_of_two(code), trail(code)]),
+            2048..65536 => { self.put_bytes(&[lead_of_three(code), trail(code >> 6), trail(code)]) }
+            _ => {
+                self.put_bytes(&[
+                    lead_of_four(code),
+                    trail(code >> 12),
+                    trail(code >> 6),
+                    trail(code),
+                ])
+            }
+        }
+    }
 
-pub fn with_graph<'a>(
-    w: Writer<'a>,
-    functions: usize,
-    undecided: usize,
-    uncovered: usize,
-    uncharacterised: usize,
-) -> Writer<'a>
-    requires { (functions < 100000000000000000) × (undecided < 100000000000000000) × (uncovered < 100000000000000000) × (uncharacterised < 100000000000000000) × (w.filled + 120 ≤ limit) }
-    ensures { result ≡ written w.entry (graph_text functions undecided uncovered uncharacterised) }
-{
-    let mut all = w;
-    write_graph(&mut all, functions, undecided, uncovered, uncharacterised);
-    all
-}
-
-// All lines of a program that is left alone.
-pub fn write_unchanged<'a>(w: &mut Writer<'a>, functions: usize, sentences: usize)
-    requires { (functions < 100000000000000000) × (sentences < 100000000000000000) × (w.old.filled + 300 ≤ limit) }
-    ensures { w.new ≡ written w.old (unchanged_text functions sentences) }
-{
-    let at = w.filled;
-    let end = put_unchanged(&mut *w.text, at, functions, sentences);
-    w.filled = end;
-}
-
-pub fn with_unchanged<'a>(w: Writer<'a>, functions: usize, sentences: usize) -> Writer<'a>
-    requires { (functions < 100000000000000000) × (sentences < 100000000000000000) × (w.filled + 300 ≤ limit) }
-    ensures { result ≡ written w.entry (unchanged_text functions sentences) }
-{
-    let mut all = w;
-    write_unchanged(&mut all, functions, sentences);
-    all
+    // A number in decimal: first the tens.
+    pub fn put_decimal(&mut self, n: usize)
+        requires { self.old.filled + length (decimal n) ≤ limit }
+        ensures { self.new ≡ written self.old (decimal n) }
+    {
+        if 9 < n {
+            self.put_decimal(n / 10);
+        }
+        self.put_byte(b'0' + (n % 10) as u8);
+    }
 }

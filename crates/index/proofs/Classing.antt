@@ -1,5 +1,5 @@
 -- The walk along the list of a function's plain sites, which writes their classes.
-use Prim.Native.Nat.{ℕ, suc, ◌+◌, ◌*◌, ◌/◌, ◌%◌, ◌≤◌, ◌<◌}
+use Prim.Native.Nat.{ℕ, suc, ◌+◌, ◌/◌, ◌%◌, ◌≤◌, ◌<◌}
 use native.Mathlib.Omega.{arith}
 use mathlib.Core.Path.{◌≡◌, refl, sym, ap, subst, ◌∙◌}
 use mathlib.Core.Bool.{Bool, true, false}
@@ -68,16 +68,8 @@ module _ {b old : List ℕ} {calls links n head : ℕ} {f : Name} {sites : List 
         let a = at-among h in
         subst (λ (m : ℕ). First (is_listed true f) (suc i) sites m) (sym (w.only.nexts i)) (l.chain.next i (at_element h).element (omega arith) a.is a.listed)
 
-    module _ (h : i < n) (c : ℕ) where
-      abbrev written : ℕ
-      written = get_or new (links + i) 0 % 8192 + 8192 * c
-
-      written_next : written % 8192 ≡ get_or new (links + i) 0 % 8192
-      written_next = omega arith
-
-      written-class : written / 8192 ≡ c
-      written-class = omega arith
-
+    -- The entry is written with the class c and the same next.
+    module _ (h : i < n) (c written : ℕ) (written_next : written % 8192 ≡ get_or new (links + i) 0 % 8192) (written-class : written / 8192 ≡ c) where
       here : get_or (set new (links + i) written) (links + i) 0 ≡ written
       here = get_or-set_same new (links + i) written 0 (link-below h)
 
@@ -97,7 +89,7 @@ module _ {b old : List ℕ} {calls links n head : ℕ} {f : Name} {sites : List 
               ap (λ (m : ℕ). entry_next (get_or (set new (links + i) written) (links + m) 0)) z ∙ (ap entry_next here ∙ (written_next ∙ (w.only.nexts i ∙ ap (λ (m : ℕ). entry_next (get_or old (links + m) 0)) (sym z))))
           next k false t = ap entry_next (there (links + k) (λ e. eqb-false k i t (omega arith))) ∙ w.only.nexts k
 
-      pub classing-next : First (is_repeat f (at_element h).element) 0 sites c → Classing f sites old (set new (links + i) (get_or new (links + i) 0 % 8192 + 8192 * c)) links (get_or new (links + i) 0 % 8192)
+      pub classing-next : First (is_repeat f (at_element h).element) 0 sites c → Classing f sites old (set new (links + i) written) links (get_or new (links + i) 0 % 8192)
       classing-next g = record {
         only = only_next;
         within = (at_next h).within;

@@ -98,3 +98,11 @@ module _ {b m : List ℕ} {n : ℕ} {fs : List Function} (t : Tabled b m n fs) (
   -- What every reading of the function there has for a name is the name.
   pub tabled-name : (x : Function) → get_elem? fs f ≡ some x → (a : Name) → ((y : FunctionAt (drop (e % 32768) b)) → a ≡ y.function.name) → a ≡ x.name
   tabled-name x q a h = let z = tabled-entry x q in h z.stands ∙ ap (λ (v : Function). v.name) z.is
+
+-- The same by the place that was read from the entry.
+module _ {b m : List ℕ} {n : ℕ} {fs : List Function} (t : Tabled b m n fs) (f p : ℕ) (place : p ≡ get_or m f 0 % 32768) where
+  pub placed-stands : f < n → FunctionAt (drop p b)
+  placed-stands l = subst (λ (q : ℕ). FunctionAt (drop q b)) (sym place) (tabled-stands t f (get_or m f 0) refl l)
+
+  pub placed-name : (x : Function) → get_elem? fs f ≡ some x → (a : Name) → ((y : FunctionAt (drop p b)) → a ≡ y.function.name) → a ≡ x.name
+  placed-name x q a = subst (λ (r : ℕ). ((y : FunctionAt (drop r b)) → a ≡ y.function.name) → a ≡ x.name) (sym place) (tabled-name t f (get_or m f 0) refl x q a)

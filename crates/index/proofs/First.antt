@@ -1,15 +1,16 @@
 -- The first element that passes a test: how a walk finds it, and what it says of the list.
 use Prim.Native.Nat.{ℕ, zero, suc, ◌≤◌, ◌<◌}
 use native.Mathlib.Omega.{arith}
-use mathlib.Core.Path.{◌≡◌, refl, ap, ◌∙◌}
+use mathlib.Core.Path.{◌≡◌, refl, ap, subst, ◌∙◌}
 use mathlib.Core.Bool.{Bool, true, false, ◌||◌, or-true}
 use mathlib.Core.List.{List, [], ◌∷◌}
 use mathlib.Core.Option.{some}
-use borrow.Author.Tests.{ltb-true, ltb-false}
+use borrow.Author.Tests.{ltb-true, ltb-false, lt-ltb, le-ltb}
 use lib.Dec.{ltb}
 use lib.ListN.{length, get_elem?}
+use Rattle.std.specs.Prelude.{Option, None, Some, is_some}
 use Rattle.meaning.specs.Lists.{any}
-use Rattle.index.specs.First.{First}
+use Rattle.index.specs.First.{First, FirstFrom}
 
 -- An element of a list at a place.
 pub record Element {A : Type 0} (l : List A) (i : ℕ) : Type 0 where
@@ -116,3 +117,12 @@ first_any {A} {test} {l} {r} f = either (ltb r (length l)) refl
     either : (t : Bool) → ltb r (length l) ≡ t → any test l ≡ t
     either true e = let x = element_at l r (ltb-true r (length l) e) in any_at test l r x.element x.is (f.found x.element x.is)
     either false e = any-nowhere test l (first-none f (omega (arith, f.within, ltb-false r (length l) e)))
+
+-- The same of a place that may be missing.
+pub any_from : {A : Type 0} (test : A → Bool) (l : List A) (r : Option ℕ) → FirstFrom test 0 l r → any test l ≡ is_some r
+any_from test l None f = first_any f ∙ le-ltb (length l) (length l) (omega arith)
+any_from test l (Some r) f = first_any f.0 ∙ lt-ltb r (length l) f.1
+
+-- A first from the end on is none.
+pub none_from : {A : Type 0} {test : A → Bool} {from r : ℕ} {l : List A} → First test from l r → length l ≤ r → FirstFrom test from l None
+none_from {A} {test} {from} {r} {l} f h = subst (First test from l) (omega (arith, f.within, h)) f

@@ -1,34 +1,28 @@
 -- The two heads of an entry, by numbers.
-use Prim.Native.Nat.{ℕ, ◌+◌, ◌*◌, ◌/◌, ◌%◌, ◌<◌, ◌≤◌}
+use Prim.Native.Nat.{ℕ, ◌<◌}
 use native.Mathlib.Omega.{arith}
-use mathlib.Core.Path.{◌≡◌, sym, ap}
-use mathlib.Core.Bool.{Bool, true, false, not, true≢false}
-use Rattle.index.specs.Links.{list_head}
+use mathlib.Core.Path.{◌≡◌, ◌∙◌}
+use mathlib.Core.Bool.{true, false, not}
+use Rattle.index.specs.Links.{list_head, is_plain_list, first_of, with_first}
+use Rattle.index.specs.declared.table.Kind.{Kind}
+use Rattle.index.specs.declared.table.Kind.TheVariants.{Plain, Other}
+use Rattle.index.specs.declared.table.Heads.{Heads}
 
-pub head_plain : (kind : Bool) (e : ℕ) → kind ≡ true → e % 8192 ≡ list_head kind e
-unfolding list_head
-head_plain kind e k = ap (λ (t : Bool). list_head t e) (sym k)
+-- The heads that an entry holds, by their list.
+pub first_head : (k : Kind) (h : Heads) (e : ℕ) → h.plain ≡ list_head true e → h.other ≡ list_head false e → first_of k h ≡ list_head (is_plain_list k) e
+first_head Plain h e p o = p
+first_head Other h e p o = o
 
-pub head-other : (kind : Bool) (e : ℕ) → kind ≡ false → e / 8192 ≡ list_head kind e
-unfolding list_head
-head-other kind e k = ap (λ (t : Bool). list_head t e) (sym k)
+-- The entry r holds the heads h with another first.
+pub replaced-head : (k : Kind) (h : Heads) (e i r : ℕ) → h.plain ≡ list_head true e → h.other ≡ list_head false e → list_head true r ≡ (with_first k h i).plain → list_head false r ≡ (with_first k h i).other → (list_head (is_plain_list k) r ≡ i) × (list_head (not (is_plain_list k)) r ≡ list_head (not (is_plain_list k)) e)
+replaced-head Plain h e i r p o a b = (a, b ∙ o)
+replaced-head Other h e i r p o a b = (b, a ∙ p)
 
--- Both heads of an entry for empty lists.
-pub empty-heads : (kind : Bool) (n : ℕ) → n ≤ 8191 → list_head kind (n + 8192 * n) ≡ n
-unfolding list_head
-empty-heads true n l = omega (arith, l)
-empty-heads false n l = omega (arith, l)
+-- Heads that fit, with another one that does.
+pub heads-fit : (k : Kind) (h : Heads) (i : ℕ) → i < 8192 → h.plain < 8192 → h.other < 524288 → ((with_first k h i).plain < 8192) × ((with_first k h i).other < 524288)
+heads-fit Plain h i l p o = (l, o)
+heads-fit Other h i l p o = (p, omega (arith, l))
 
--- The entry r is e with another head.
-abbrev pub Replaced : Bool → ℕ → ℕ → ℕ → Type 0
-Replaced kind e i r = (list_head kind r ≡ i) × (list_head (not kind) r ≡ list_head (not kind) e)
-
-pub replaced_plain : (kind : Bool) (e i r : ℕ) → kind ≡ true → i < 8192 → r ≡ e / 8192 * 8192 + i → Replaced kind e i r
-unfolding list_head
-replaced_plain true e i r k l q = (omega (arith, l, q), omega (arith, l, q))
-replaced_plain false e i r k l q = absurd (true≢false (sym k))
-
-pub replaced_other : (kind : Bool) (e i r : ℕ) → kind ≡ false → i < 8192 → r ≡ e % 8192 + 8192 * i → Replaced kind e i r
-unfolding list_head
-replaced_other true e i r k l q = absurd (true≢false k)
-replaced_other false e i r k l q = (omega (arith, l, q), omega (arith, l, q))
+pub head_below : (k : Kind) (h : Heads) → h.plain < 8192 → h.other < 524288 → first_of k h < 524288
+head_below Plain h p o = omega (arith, p)
+head_below Other h p o = o

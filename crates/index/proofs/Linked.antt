@@ -1,5 +1,5 @@
 -- Linking one site more: the heads and links are right from it on.
-use Prim.Native.Nat.{ℕ, suc, ◌+◌, ◌*◌, ◌%◌, ◌<◌, ◌≤◌}
+use Prim.Native.Nat.{ℕ, suc, ◌+◌, ◌%◌, ◌<◌, ◌≤◌}
 use native.Mathlib.Omega.{arith}
 use native.Mathlib.Nat.{mod-eq_of_lt}
 use native.Mathlib.Numerals.{add-one}
@@ -24,7 +24,6 @@ use Rattle.meaning.specs.Sites.{restriction_is_characterisable}
 use Rattle.index.specs.Linking.{Columns, Indexed, Pushed}
 use Rattle.index.proofs.Entries.{Element, element_below, element_of, same_element}
 use Rattle.index.proofs.Firsts.{first-end, first-here, first_sooner, first_agree, first_one}
-use Rattle.index.proofs.Heads.{empty-heads}
 use Rattle.index.proofs.Calls.{no_call, its_kind, other-kind, listed-call, listed-kind, same_lists, call-named, named-name, same-named}
 
 -- One write to a link and one to a pair of heads.
@@ -40,8 +39,8 @@ pushed kind m head link i v w l u e f o =
     }
 
 -- No site is linked.
-pub firsts-none : (fs : List Function) (held : List Held) (m : List ℕ) (at count sites : ℕ) → length fs ≡ count → length held ≡ sites → sites ≤ 8191 → ((f : ℕ) → f < count → get_or m (at + f) 0 ≡ sites + 8192 * sites) → FirstsHeaded fs held m at sites
-firsts-none fs held m at count sites c e l h = record { head = λ kind f x q d. subst (First (is_listed kind x.name) sites held) (sym (ap (list_head kind) (h f (omega (arith, element_below fs f q, c))) ∙ empty-heads kind sites l)) (first-end (is_listed kind x.name) held sites e) }
+pub firsts-none : (fs : List Function) (held : List Held) (m : List ℕ) (at count sites : ℕ) → length fs ≡ count → length held ≡ sites → ((kind : Bool) (f : ℕ) → f < count → list_head kind (get_or m (at + f) 0) ≡ sites) → FirstsHeaded fs held m at sites
+firsts-none fs held m at count sites c e h = record { head = λ kind f x q d. subst (First (is_listed kind x.name) sites held) (sym (h kind f (omega (arith, element_below fs f q, c)))) (first-end (is_listed kind x.name) held sites e) }
 
 pub chained-none : (fs : List Function) (held : List Held) (m : List ℕ) (at sites : ℕ) → length held ≡ sites → Chained fs held m at sites
 chained-none fs held m at sites e = record { chain = λ kind f x q. record { next = λ i y l p. absurd (omega (arith, l, element_below held i p, e)) } }

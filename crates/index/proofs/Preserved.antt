@@ -49,7 +49,7 @@ module _ {old new : List ℕ} {functions calls links sites at n : ℕ} (k : Colu
   pub indexed-after : {b : List ℕ} {fs : List Function} {held : List Held} → Indexed b old functions calls sites at n fs held → Indexed b new functions calls sites at n fs held
   indexed-after x = record { tabled = tabled-after x.tabled; filed = filed_after x.filed; entries = sites-after x.entries x.count; count = x.count }
 
-  pub some_filed_after : {b : List ℕ} → SomeFiled b old functions at n → SomeFiled b new functions at n
+  pub some_filed_after : {b : List ℕ} → SomeFiled b old (record { functions = functions; at = at; buckets = n }) → SomeFiled b new (record { functions = functions; at = at; buckets = n })
   some_filed_after x = record { functions = x.functions; tabled = tabled-after x.tabled; filed = filed_after x.filed; fits = omega (arith, x.fits, o.length); some = x.some }
 
   pub some_sites_after : {b : List ℕ} → SomeSites b old calls sites → SomeSites b new calls sites
@@ -82,5 +82,5 @@ module _ {old new : List ℕ} {functions at : ℕ} (a : Apart old new functions 
   pub filed-apart : {fs : List Function} {n : ℕ} → Filed fs old at (at + functions) n 0 → Filed fs new at (at + functions) n 0
   filed-apart d = filed-same d (λ k u. a.after k (λ v. omega (arith, u, v, l))) (omega arith)
 
-  pub some_filed_apart : {b : List ℕ} {n : ℕ} → SomeFiled b old functions at n → SomeFiled b new functions at n
+  pub some_filed_apart : {b : List ℕ} {n : ℕ} → SomeFiled b old (record { functions = functions; at = at; buckets = n }) → SomeFiled b new (record { functions = functions; at = at; buckets = n })
   some_filed_apart x = record { functions = x.functions; tabled = tabled-apart x.tabled; filed = filed-apart x.filed; fits = omega (arith, x.fits, a.length); some = x.some }

@@ -5,6 +5,7 @@ use mathlib.Core.Path.{◌≡◌, refl, sym, ap, subst, ◌∙◌}
 use mathlib.Core.Bool.{Bool, true, false}
 use mathlib.Core.List.{List}
 use mathlib.Core.Option.{some}
+use Rattle.std.specs.Prelude.{Option, None, Some, IsSome}
 use lib.Dec.{eqb}
 use lib.ListN.{length, get_or, get_elem?, set}
 use lib.Seq.{get_or-set_same, get_or-set_other}
@@ -13,7 +14,7 @@ use Rattle.program.specs.Syntax.{Function}
 use Rattle.patterns.specs.Names.{same_name}
 use Rattle.patterns.proofs.Names.{same_name_refl, same_name_sym}
 use Rattle.told.specs.Numbered.{Held}
-use Rattle.index.specs.First.{First}
+use Rattle.index.specs.First.{First, FirstFrom}
 use Rattle.index.specs.Bucket.{is_named}
 use Rattle.told.specs.Calls.{is_listed}
 use Rattle.index.specs.Links.{list_head, FirstsHeaded, Headed}
@@ -35,6 +36,14 @@ sharing_end {fs} s l = record { head = λ kind f x q. s.done kind f x q (omega (
 -- The first of a function's name stands no later.
 pub own_first : (fs : List Function) (f g : ℕ) (x : Function) → get_elem? fs f ≡ some x → First (is_named x.name) 0 fs g → g ≤ f
 own_first fs f g x q c = first-before fs c f x q (named-is x.name x ∙ same_name_refl x.name) (omega arith)
+
+-- A function's name is found.
+pub own-found : (fs : List Function) (f : ℕ) (x : Function) → get_elem? fs f ≡ some x → (o : Option ℕ) → FirstFrom (is_named x.name) 0 fs o → IsSome o
+own-found fs f x q None c =
+    let t : is_named x.name x ≡ true = named-is x.name x ∙ same_name_refl x.name in
+    let u : is_named x.name x ≡ false = c.none f x (omega arith) (element_below fs f q) q in
+    let z : ◌≡◌ {A = ℕ} 0 1 = cc in absurd (omega arith)
+own-found fs f x q (Some g) c = refl
 
 module _ {fs : List Function} {held : List Held} {m : List ℕ} {at f : ℕ} (s : Sharing fs held m at f) (x : Function) (q : get_elem? fs f ≡ some x) (g : ℕ) (c : First (is_named x.name) 0 fs g) (fits : at + f < length m) where
   abbrev z : Function

@@ -1,5 +1,5 @@
 -- Where the parts of work begin: columns, one after another, of functions (two), sentences (two), kept marks, sites (three); then room.
-use Rattle.std.specs.Prelude.{ℕ, ◌+◌, ◌*◌, ◌/◌}
+use Rattle.std.specs.Prelude.{ℕ, ◌+◌, ◌*◌, ◌/◌, ◌≤◌, List, length}
 use Rattle.index.specs.declared.Plan.{Plan}
 
 abbrev pub heads : Plan → ℕ
@@ -27,3 +27,7 @@ notes p = links p + p.sites
 
 abbrev pub room : Plan → ℕ
 room p = notes p + p.sites
+
+-- Work reaches so far, and is no longer than what is lent: an entry for each four bytes of an image.
+abbrev pub Reaches : ℕ → List ℕ → Type 0
+Reaches end m = (end ≤ length m) × (length m ≤ 8192)

@@ -8,11 +8,27 @@ use Rattle.told.specs.Numbered.{Held}
 use Rattle.index.specs.First.{First}
 use Rattle.index.specs.Bucket.{is_named}
 use Rattle.told.specs.Calls.{is_listed}
+use Rattle.index.specs.declared.table.Kind.{Kind}
+use Rattle.index.specs.declared.table.Kind.TheVariants.{Plain, Other}
+use Rattle.index.specs.declared.table.Heads.{Heads}
 
 -- A function's entry holds the heads of its two lists, 13 bits each.
 unfoldable pub list_head : Bool → ℕ → ℕ
 list_head true e = e % 8192
 list_head false e = e / 8192
+
+-- Which of the two a list is.
+abbrev pub is_plain_list : Kind → Bool
+is_plain_list Plain = true
+is_plain_list Other = false
+
+abbrev pub first_of : Kind → Heads → ℕ
+first_of Plain h = h.plain
+first_of Other h = h.other
+
+abbrev pub with_first : Kind → Heads → ℕ → Heads
+with_first Plain h i = record { plain = i; other = h.other }
+with_first Other h i = record { plain = h.plain; other = i }
 
 -- A site's entry holds the next of its list, 13 bits, and the first of its class above.
 abbrev pub entry_next : ℕ → ℕ

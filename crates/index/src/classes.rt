@@ -8,15 +8,16 @@ ghost use Rattle.index.specs.First.{First};
 ghost use Rattle.index.specs.Links.{is_repeat, Classed};
 ghost use Rattle.index.specs.Lists.{ListAt, SomeListAt, Among, SomeAmong, OnlyClasses};
 
+use crate::table::{Link, next_site};
 use configuration::same_configuration;
-use restrictions::call_argument;
+use restrictions::{Located, call_argument};
 
 // Where the argument of the site with that entry begins in the body b.
 pub fn site_argument(b: &[u8], entry: u32) -> usize
     requires { CallAt (drop (entry_offset entry) b.now) }
     ensures { (result ≤ length b.now) × ((x : CallAt (drop (entry_offset entry) b.now)) → drop result b.now ≡ put_terms x.argument x.rest) }
 {
-    let p = (entry % 32768) as usize;
+    let p = Located::from(entry).place;
     p + call_argument(&b[p..])
 }
 
@@ -36,14 +37,14 @@ fn first_alike(
     let own = calls + i;
     let q = site_argument(b, work[own]);
     let mut j = head;
+    // The list goes from entry to entry of the lent memory, and ends at the site itself.
     while j < i {
         let k = calls + j;
         let p = site_argument(b, work[k]);
         if same_configuration(&b[p..], &b[q..]) {
             return j;
         }
-        let l = links + j;
-        j = (work[l] % 8192) as usize;
+        j = next_site(work, links, j);
     }
     j
 }
@@ -55,11 +56,12 @@ pub fn class_list(b: &[u8], work: &mut [u32], calls: usize, links: usize, n: usi
     ensures others { (f : Name) (sites : List Held) → ListAt b.now work.old calls links n head f sites → OnlyClasses f sites work.old work.new links }
 {
     let mut i = head;
+    // The list goes from entry to entry of the lent memory, which is written on the way.
     while i < n {
         let c = first_alike(b, work, calls, links, n, head, i);
         let l = links + i;
-        let next = work[l] % 8192;
-        work[l] = next + 8192 * (c as u32);
-        i = next as usize;
+        let next = next_site(work, links, i);
+        work[l] = Link { next, class: c }.packed();
+        i = next;
     }
 }

@@ -1,70 +1,72 @@
 // Where the columns of work begin.
 ghost use Rattle.std.specs.Prelude.{◌≡◌, ◌+◌, ◌%◌, ◌<◌, ◌≤◌, length, get_or};
-ghost use Rattle.index.specs.Layout.{lines, witnesses, marks, calls, links, notes, room};
+ghost use Rattle.index.specs.Layout.{lines, witnesses, marks, calls, links, notes, room, Reaches};
 
 use crate::Plan;
 use crate::table::place_of;
 
-// The sentences' places, and the rounds in which they fell.
-pub fn lines_of(plan: Plan) -> usize
-    requires { plan.functions ≤ 32768 }
-    ensures { result ≡ lines plan }
-{
-    2 * plan.functions
-}
+impl Plan {
+    // The sentences' places, and the rounds in which they fell.
+    pub fn lines(self) -> usize
+        requires { self.functions ≤ 32768 }
+        ensures { result ≡ lines self }
+    {
+        2 * self.functions
+    }
 
-// The sentences' witnesses.
-pub fn witnesses_of(plan: Plan) -> usize
-    requires { (plan.functions ≤ 32768) × (plan.sentences ≤ 32768) }
-    ensures { result ≡ witnesses plan }
-{
-    lines_of(plan) + plan.sentences
-}
+    // The sentences' witnesses.
+    pub fn witnesses(self) -> usize
+        requires { (self.functions ≤ 32768) × (self.sentences ≤ 32768) }
+        ensures { result ≡ witnesses self }
+    {
+        self.lines() + self.sentences
+    }
 
-// The kept marks.
-pub fn marks_of(plan: Plan) -> usize
-    requires { (plan.functions ≤ 32768) × (plan.sentences ≤ 32768) }
-    ensures { result ≡ marks plan }
-{
-    witnesses_of(plan) + plan.sentences
-}
+    // The kept marks.
+    pub fn marks(self) -> usize
+        requires { (self.functions ≤ 32768) × (self.sentences ≤ 32768) }
+        ensures { result ≡ marks self }
+    {
+        self.witnesses() + self.sentences
+    }
 
-// The sites.
-pub fn calls_of(plan: Plan) -> usize
-    requires { (plan.functions ≤ 32768) × (plan.sentences ≤ 32768) }
-    ensures { result ≡ calls plan }
-{
-    marks_of(plan) + (plan.sentences + 31) / 32
-}
+    // The sites.
+    pub fn calls(self) -> usize
+        requires { (self.functions ≤ 32768) × (self.sentences ≤ 32768) }
+        ensures { result ≡ calls self }
+    {
+        self.marks() + (self.sentences + 31) / 32
+    }
 
-// The sites' links and classes.
-pub fn links_of(plan: Plan) -> usize
-    requires { (plan.functions ≤ 32768) × (plan.sentences ≤ 32768) × (plan.sites ≤ 32768) }
-    ensures { result ≡ links plan }
-{
-    calls_of(plan) + plan.sites
-}
+    // The sites' links and classes.
+    pub fn links(self) -> usize
+        requires { (self.functions ≤ 32768) × (self.sentences ≤ 32768) × (self.sites ≤ 32768) }
+        ensures { result ≡ links self }
+    {
+        self.calls() + self.sites
+    }
 
-// The sites' notes.
-pub fn notes_of(plan: Plan) -> usize
-    requires { (plan.functions ≤ 32768) × (plan.sentences ≤ 32768) × (plan.sites ≤ 32768) }
-    ensures { result ≡ notes plan }
-{
-    links_of(plan) + plan.sites
-}
+    // The sites' notes.
+    pub fn notes(self) -> usize
+        requires { (self.functions ≤ 32768) × (self.sentences ≤ 32768) × (self.sites ≤ 32768) }
+        ensures { result ≡ notes self }
+    {
+        self.links() + self.sites
+    }
 
-// The room behind the columns.
-pub fn room_of(plan: Plan) -> usize
-    requires { (plan.functions ≤ 32768) × (plan.sentences ≤ 32768) × (plan.sites ≤ 32768) }
-    ensures { result ≡ room plan }
-{
-    notes_of(plan) + plan.sites
-}
+    // The room behind the columns.
+    pub fn room(self) -> usize
+        requires { (self.functions ≤ 32768) × (self.sentences ≤ 32768) × (self.sites ≤ 32768) }
+        ensures { result ≡ room self }
+    {
+        self.notes() + self.sites
+    }
 
-// Where the pattern of the sentence s stands: behind a mark and a span.
-pub fn pattern_place(work: &[u32], plan: Plan, s: usize) -> usize
-    requires { (s < plan.sentences) × (marks plan ≤ length work.now) × (length work.now ≤ 8192) }
-    ensures { (result ≡ get_or work.now (lines plan + s) 0 % 32768 + 9) × (result < 32777) }
-{
-    place_of(work, lines_of(plan) + s) + 9
+    // Where the pattern of the sentence s stands: behind a mark and a span.
+    pub fn pattern_place(self, work: &[u32], s: usize) -> usize
+        requires { (s < self.sentences) × Reaches (marks self) work.now }
+        ensures { (result ≡ get_or work.now (lines self + s) 0 % 32768 + 9) × (result < 32777) }
+    {
+        place_of(work, self.lines() + s) + 9
+    }
 }

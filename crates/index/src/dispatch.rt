@@ -7,7 +7,7 @@ ghost use Rattle.told.specs.Numbered.{Held};
 ghost use Rattle.index.specs.Tables.{SitesAt};
 ghost use Rattle.index.specs.Linking.{SomeSites};
 
-use restrictions::call_name;
+use restrictions::{Located, call_name};
 use symbols::same_name;
 
 // Whether the name is Mu or Up.
@@ -33,14 +33,10 @@ pub fn residual_dispatches_dynamically(b: &[u8], work: &[u32], calls: usize, n: 
     requires { SomeSites b.now work.now calls n × (calls + n ≤ length work.now) }
     ensures { (held : List Held) → SitesAt b.now held work.now calls → length held ≡ n → result ≡ any (λ x. activates_acarried_call x.site.callee) held }
 {
-    let mut i = 0;
-    while i < n {
-        let c = calls + i;
-        let p = (work[c] % 32768) as usize;
-        if call_activates(b, p) {
+    for e in &work[calls..calls + n] {
+        if call_activates(b, Located::from(*e).place) {
             return true;
         }
-        i += 1;
     }
     false
 }

@@ -5,7 +5,7 @@ ghost use Rattle.image.specs.Parts.{FunctionsAt};
 ghost use Rattle.index.specs.Tables.{FunctionsIn, SentencesIn, Apart};
 
 use image::part::{sentence_len, sentences_start};
-use restrictions::entry_of;
+use restrictions::Located;
 
 // Every entry from `from` up to `end` becomes v.
 pub fn fill(work: &mut [u32], from: usize, end: usize, v: u32)
@@ -13,14 +13,11 @@ pub fn fill(work: &mut [u32], from: usize, end: usize, v: u32)
     ensures filled { (k : ℕ) → from ≤ k → k < end → get_or work.new k 0 ≡ v }
     ensures others { Apart work.old work.new from end }
 {
-    let mut k = from;
-    while k < end {
-        work[k] = v;
-        k += 1;
-    }
+    work[from..end].fill(v);
 }
 
-// Lists the functions that stand from `from` to the end of the body b, at 0 of work, and their sentences at `lines`.
+// Lists the functions that stand from `from` to the end of the body b, at 0 of work, and their sentences at `lines`: one walk over
+// the records, whose marks say which of the two is counted.
 pub fn list_functions(b: &[u8], from: usize, work: &mut [u32], lines: usize)
     requires { (length b.now ≤ 32768) × (from ≤ length b.now) × ((h : FunctionsAt (drop from b.now)) → (length h.functions ≤ lines) × (lines + length (own_sentences h.functions) ≤ length work.old)) × FunctionsAt (drop from b.now) }
     ensures functions { (h : FunctionsAt (drop from b.now)) → FunctionsIn b.now h.functions work.new 0 }
@@ -34,7 +31,11 @@ pub fn list_functions(b: &[u8], from: usize, work: &mut [u32], lines: usize)
     while p < b.len() {
         let m = b[p];
         if m == 18 {
-            work[f] = entry_of(p, s);
+            work[f] = Located {
+                place: p,
+                number: s,
+            }
+            .packed();
             f += 1;
             p += sentences_start(&b[p..]);
         } else if m == 10 {

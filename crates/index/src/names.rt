@@ -2,11 +2,12 @@
 ghost use Rattle.std.specs.Prelude.{◌≡◌, List, ℕ, ◌+◌, ◌%◌, ◌<◌, ◌≤◌, length, get_or, drop};
 ghost use Rattle.program.specs.Syntax.{Function};
 ghost use Rattle.image.specs.Parts.{FunctionAt};
-ghost use Rattle.index.specs.First.{First};
+ghost use Rattle.index.specs.First.{FirstFrom};
 ghost use Rattle.index.specs.Tables.{Apart};
-ghost use Rattle.index.specs.Bucket.{bucket_of, is_named, Filed};
-ghost use Rattle.index.specs.Tabled.{Tabled, SomeTabled, SomeFiled};
+ghost use Rattle.index.specs.Bucket.{bucket_of, is_named};
+ghost use Rattle.index.specs.Tabled.{Tabled, SomeTabled, FiledAs, SomeFiled};
 
+use crate::table::place_of;
 use image::part::name_part;
 use symbols::{same_name, small};
 
@@ -16,10 +17,8 @@ fn bucket_of(name: &[u8], n: usize) -> usize
     ensures { (result ≡ bucket_of n name.now) × (result < n) }
 {
     let mut h: usize = 0;
-    let mut i = 0;
-    while i < name.len() {
-        h = (h * 31 + small(name[i]) as usize) % 65536;
-        i += 1;
+    for c in name {
+        h = (h * 31 + usize::from(small(*c))) % 65536;
     }
     h % n
 }
@@ -33,44 +32,46 @@ pub fn function_name(b: &[u8], p: usize) -> &[u8]
     name_part(&b[at..])
 }
 
-// Files so many functions, the last first, so that each bucket's list rises: links at `at`, n buckets behind them, all empty.
-pub fn file_functions(b: &[u8], work: &mut [u32], functions: usize, at: usize, n: usize)
-    requires { SomeTabled b.now work.old functions × (functions ≤ at) × (at + functions + n ≤ length work.old) × (length work.old ≤ 32768) × (0 < n) × ((k : ℕ) → k < n → get_or work.old (at + functions + k) 0 ≡ functions) }
-    ensures filed { (fs : List Function) → Tabled b.now work.old functions fs → Filed fs work.new at (at + functions) n 0 }
-    ensures others { Apart work.old work.new at (at + functions + n) }
-{
-    let mut f = functions;
-    while 0 < f {
-        f -= 1;
-        let p = (work[f] % 32768) as usize;
-        let k = at + functions + bucket_of(function_name(b, p), n);
-        let l = at + f;
-        work[l] = work[k];
-        work[k] = f as u32;
-    }
+// Where so many functions are filed: their links stand at `at`, one a function, and so many buckets behind them.
+#[derive(Clone, Copy)]
+pub struct Filing {
+    pub functions: usize,
+    pub at: usize,
+    pub buckets: usize,
 }
 
-// The first function of that name; the count of functions, if there is none.
-pub fn function_named(
-    b: &[u8],
-    work: &[u32],
-    functions: usize,
-    at: usize,
-    n: usize,
-    name: &[u8],
-) -> usize
-    requires { SomeFiled b.now work.now functions at n × (length work.now ≤ 32768) }
-    ensures { (fs : List Function) → Tabled b.now work.now functions fs → Filed fs work.now at (at + functions) n 0 → First (is_named name.now) 0 fs result }
-{
-    let k = at + functions + bucket_of(name, n);
-    let mut f = work[k] as usize;
-    while f < functions {
-        let p = (work[f] % 32768) as usize;
-        if same_name(function_name(b, p), name) {
-            return f;
+impl Filing {
+    // Files the functions, the last first, so that each bucket's list rises; all buckets are empty.
+    pub fn file_functions(self, b: &[u8], work: &mut [u32])
+        requires { SomeTabled b.now work.old self.functions × (self.functions ≤ self.at) × (self.at + self.functions + self.buckets ≤ length work.old) × (length work.old ≤ 32768) × (0 < self.buckets) × ((k : ℕ) → k < self.buckets → get_or work.old (self.at + self.functions + k) 0 ≡ self.functions) }
+        ensures filed { (fs : List Function) → Tabled b.now work.old self.functions fs → FiledAs fs work.new self }
+        ensures others { Apart work.old work.new self.at (self.at + self.functions + self.buckets) }
+    {
+        for f in (0..self.functions).rev() {
+            let p = place_of(work, f);
+            let k = self.at + self.functions + bucket_of(function_name(b, p), self.buckets);
+            let l = self.at + f;
+            work[l] = work[k];
+            work[k] = f as u32;
         }
-        let l = at + f;
-        f = work[l] as usize;
     }
-    f
+
+    // The first function of that name, if there is one.
+    pub fn function_named(self, b: &[u8], work: &[u32], name: &[u8]) -> Option<usize>
+        requires { SomeFiled b.now work.now self × (length work.now ≤ 32768) }
+        ensures { (fs : List Function) → Tabled b.now work.now self.functions fs → FiledAs fs work.now self → FirstFrom (is_named name.now) 0 fs result }
+    {
+        let k = self.at + self.functions + bucket_of(name, self.buckets);
+        let mut f = work[k] as usize;
+        // A list in the lent entries, where the count of functions ends it: fixed memory.
+        while f < self.functions {
+            let p = place_of(work, f);
+            if same_name(function_name(b, p), name) {
+                return Some(f);
+            }
+            let l = self.at + f;
+            f = work[l] as usize;
+        }
+        None
+    }
 }

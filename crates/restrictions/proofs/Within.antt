@@ -4,6 +4,8 @@ use native.Mathlib.Omega.{arith}
 use mathlib.Core.Path.{◌≡◌, refl, sym, ap, subst, ◌∙◌}
 use mathlib.Core.Bool.{Bool, true, false, ◌&&◌, and_assoc}
 use mathlib.Core.List.{List, [], ◌∷◌}
+use borrow.Author.Tests.{eqb-true, eqb-false}
+use lib.Dec.{eqb}
 use lib.ListN.{length, get_or, drop, length-drop}
 use Rattle.program.specs.Syntax.{Terms, nil}
 use Rattle.program.specs.Bytes.{put32, put_span}
@@ -61,17 +63,25 @@ module _ {s : List ℕ} {i closes : ℕ} {t : TermsAt Mode.result s} (w : Within
   bracket-here : get_or (part s i) 0 0 ≡ 7 → IsBracket w.first
   bracket-here m = at_bracket (put_all w.more t.rest) w.first (sym mark_of ∙ m)
 
-  pub within-call : get_or (part s i) 0 0 ≡ 8 → restriction_is_characterisable t.terms ≡ false
+  within-call : get_or (part s i) 0 0 ≡ 8 → restriction_is_characterisable t.terms ≡ false
   unfolding restriction_is_characterisable
   within-call m =
       let h = at_call (put_all w.more t.rest) w.first (sym mark_of ∙ m) in
       w.whole ∙ ap (λ (f : Terms). restriction_is_characterisable f && all restriction_is_characterisable w.more) h.is
 
-  pub within_block : get_or (part s i) 0 0 ≡ 9 → restriction_is_characterisable t.terms ≡ false
+  within_block : get_or (part s i) 0 0 ≡ 9 → restriction_is_characterisable t.terms ≡ false
   unfolding restriction_is_characterisable
   within_block m =
       let h = at_block (put_all w.more t.rest) w.first (sym mark_of ∙ m) in
       w.whole ∙ ap (λ (f : Terms). restriction_is_characterisable f && all restriction_is_characterisable w.more) h.is
+
+  -- Either of them.
+  pub within-active : 8 ≤ get_or (part s i) 0 0 → get_or (part s i) 0 0 < 10 → restriction_is_characterisable t.terms ≡ false
+  within-active l u = go (eqb (get_or (part s i) 0 0) 8) refl
+    where
+      go : (b : Bool) → eqb (get_or (part s i) 0 0) 8 ≡ b → restriction_is_characterisable t.terms ≡ false
+      go true e = within-call (eqb-true (get_or (part s i) 0 0) 8 e)
+      go false e = within_block (let d : get_or (part s i) 0 0 ≡ 8 → ⊥ = eqb-false (get_or (part s i) 0 0) 8 e in omega (arith, l, u, d))
 
   pub within-bracket : get_or (part s i) 0 0 ≡ 7 → Within s (i + 9) (closes + 1) t
   unfolding put_terms put_span put32 restriction_is_characterisable all

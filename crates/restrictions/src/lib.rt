@@ -29,10 +29,7 @@ pub fn restriction_is_characterisable(s: &[u8]) -> bool
                 closes += 1;
                 i += 9;
             }
-            8 => {
-                return false;
-            }
-            9 => {
+            8 | 9 => {
                 return false;
             }
             15 => {
@@ -65,12 +62,33 @@ pub fn call_argument(s: &[u8]) -> usize
     10 + s[9] as usize
 }
 
-// A place and the number of a sentence in one entry.
-pub fn entry_of(p: usize, sentence: usize) -> u32
-    requires { (p < 32768) × (sentence < 4096) }
-    ensures { (entry_offset result ≡ p) × (entry_sentence result ≡ sentence) }
-{
-    p as u32 + 32768 * (sentence as u32)
+// What an entry holds: the place of a record, 15 bits of it, and a number, 12 bits above: of a site its sentence, of a
+// function its first sentence, of a sentence the round in which it fell.
+#[derive(Clone, Copy, Debug, PartialEq, Eq)]
+pub struct Located {
+    pub place: usize,
+    pub number: usize,
+}
+
+impl From<u32> for Located {
+    fn from(e: u32) -> Located
+        ensures { (result.place ≡ entry_offset e) × (result.number ≡ entry_sentence e) }
+    {
+        Located {
+            place: (e % 32768) as usize,
+            number: (e / 32768 % 4096) as usize,
+        }
+    }
+}
+
+impl Located {
+    // Both in one entry.
+    pub fn packed(self) -> u32
+        requires { (self.place < 32768) × (self.number < 4096) }
+        ensures { (entry_offset result ≡ self.place) × (entry_sentence result ≡ self.number) }
+    {
+        self.place as u32 + 32768 * self.number as u32
+    }
 }
 
 // The place past a walk's records, in the bytes that it was given, and how many sites are listed by then.
@@ -120,7 +138,12 @@ fn collect_call_sites(part: &[u8], at: usize, sentence: usize, sites: &mut [u32]
         } else if m < 7 {
             i += term_len(x);
         } else if m == 8 {
-            sites[k] = entry_of(at + i, sentence);
+            let place = at + i;
+            sites[k] = Located {
+                place,
+                number: sentence,
+            }
+            .packed();
             k += 1;
             i += call_argument(x);
             lists = 1;

@@ -16,22 +16,30 @@ loop-lists-init t c =
 
 pub slice_bounds-x-count : goal.slice_bounds-x-count
 slice_bounds-x-count t c =
-    let g = (let it : Going (body_with c.args.at c.args.part.now) c.args.part.now c.args.sentence c.args.sites.now c.args.n c.loop-lists.sites c.loop-lists.i c.loop-lists.k c.loop-lists.lists c.loop-lists.next c.requires.2.reading = (let it : (b : List ℕ) (r : RecordsAt c.args.part.now) → drop c.args.at b ≡ c.args.part.now → Going b c.args.part.now c.args.sentence c.args.sites.now c.args.n c.loop-lists.sites c.loop-lists.i c.loop-lists.k c.loop-lists.lists c.loop-lists.next r = λ b r e. c.loop-lists.invariant.2 b r e in it) (body_with c.args.at c.args.part.now) c.requires.2.reading (body_with_lem c.args.at c.args.part.now) in it) in
+    let going : (b : List ℕ) (r : RecordsAt c.args.part.now) → drop c.args.at b ≡ c.args.part.now → Going b c.args.part.now c.args.sentence c.args.sites.now c.args.n c.loop-lists.sites c.loop-lists.i c.loop-lists.k c.loop-lists.lists c.loop-lists.next r = λ b r e. c.loop-lists.invariant.2 b r e in
+    let the_going : Going (body_with c.args.at c.args.part.now) c.args.part.now c.args.sentence c.args.sites.now c.args.n c.loop-lists.sites c.loop-lists.i c.loop-lists.k c.loop-lists.lists c.loop-lists.next c.requires.2.reading = going (body_with c.args.at c.args.part.now) c.requires.2.reading (body_with_lem c.args.at c.args.part.now) in
+    let g = the_going in
     omega (arith, going_within g)
 
 pub slice_bounds-x-start : goal.slice_bounds-x-start
 slice_bounds-x-start t c =
-    let g = (let it : Going (body_with c.args.at c.args.part.now) c.args.part.now c.args.sentence c.args.sites.now c.args.n c.loop-lists.sites c.loop-lists.i c.loop-lists.k c.loop-lists.lists c.loop-lists.next c.requires.2.reading = (let it : (b : List ℕ) (r : RecordsAt c.args.part.now) → drop c.args.at b ≡ c.args.part.now → Going b c.args.part.now c.args.sentence c.args.sites.now c.args.n c.loop-lists.sites c.loop-lists.i c.loop-lists.k c.loop-lists.lists c.loop-lists.next r = λ b r e. c.loop-lists.invariant.2 b r e in it) (body_with c.args.at c.args.part.now) c.requires.2.reading (body_with_lem c.args.at c.args.part.now) in it) in
+    let going : (b : List ℕ) (r : RecordsAt c.args.part.now) → drop c.args.at b ≡ c.args.part.now → Going b c.args.part.now c.args.sentence c.args.sites.now c.args.n c.loop-lists.sites c.loop-lists.i c.loop-lists.k c.loop-lists.lists c.loop-lists.next r = λ b r e. c.loop-lists.invariant.2 b r e in
+    let the_going : Going (body_with c.args.at c.args.part.now) c.args.part.now c.args.sentence c.args.sites.now c.args.n c.loop-lists.sites c.loop-lists.i c.loop-lists.k c.loop-lists.lists c.loop-lists.next c.requires.2.reading = going (body_with c.args.at c.args.part.now) c.requires.2.reading (body_with_lem c.args.at c.args.part.now) in
+    let g = the_going in
     omega (arith, going_within g)
 
 pub slice_bounds-x-end : goal.slice_bounds-x-end
 slice_bounds-x-end t c =
-    let g = (let it : Going (body_with c.args.at c.args.part.now) c.args.part.now c.args.sentence c.args.sites.now c.args.n c.loop-lists.sites c.loop-lists.i c.loop-lists.k c.loop-lists.lists c.loop-lists.next c.requires.2.reading = (let it : (b : List ℕ) (r : RecordsAt c.args.part.now) → drop c.args.at b ≡ c.args.part.now → Going b c.args.part.now c.args.sentence c.args.sites.now c.args.n c.loop-lists.sites c.loop-lists.i c.loop-lists.k c.loop-lists.lists c.loop-lists.next r = λ b r e. c.loop-lists.invariant.2 b r e in it) (body_with c.args.at c.args.part.now) c.requires.2.reading (body_with_lem c.args.at c.args.part.now) in it) in
+    let going : (b : List ℕ) (r : RecordsAt c.args.part.now) → drop c.args.at b ≡ c.args.part.now → Going b c.args.part.now c.args.sentence c.args.sites.now c.args.n c.loop-lists.sites c.loop-lists.i c.loop-lists.k c.loop-lists.lists c.loop-lists.next r = λ b r e. c.loop-lists.invariant.2 b r e in
+    let the_going : Going (body_with c.args.at c.args.part.now) c.args.part.now c.args.sentence c.args.sites.now c.args.n c.loop-lists.sites c.loop-lists.i c.loop-lists.k c.loop-lists.lists c.loop-lists.next c.requires.2.reading = going (body_with c.args.at c.args.part.now) c.requires.2.reading (body_with_lem c.args.at c.args.part.now) in
+    let g = the_going in
     omega (arith, going_within g)
 
 pub bounds-x-0 : goal.bounds-x-0
 bounds-x-0 t c =
-    let g = (let it : Going (body_with c.args.at c.args.part.now) c.args.part.now c.args.sentence c.args.sites.now c.args.n c.loop-lists.sites c.loop-lists.i c.loop-lists.k c.loop-lists.lists c.loop-lists.next c.requires.2.reading = (let it : (b : List ℕ) (r : RecordsAt c.args.part.now) → drop c.args.at b ≡ c.args.part.now → Going b c.args.part.now c.args.sentence c.args.sites.now c.args.n c.loop-lists.sites c.loop-lists.i c.loop-lists.k c.loop-lists.lists c.loop-lists.next r = λ b r e. c.loop-lists.invariant.2 b r e in it) (body_with c.args.at c.args.part.now) c.requires.2.reading (body_with_lem c.args.at c.args.part.now) in it) in
+    let going : (b : List ℕ) (r : RecordsAt c.args.part.now) → drop c.args.at b ≡ c.args.part.now → Going b c.args.part.now c.args.sentence c.args.sites.now c.args.n c.loop-lists.sites c.loop-lists.i c.loop-lists.k c.loop-lists.lists c.loop-lists.next r = λ b r e. c.loop-lists.invariant.2 b r e in
+    let the_going : Going (body_with c.args.at c.args.part.now) c.args.part.now c.args.sentence c.args.sites.now c.args.n c.loop-lists.sites c.loop-lists.i c.loop-lists.k c.loop-lists.lists c.loop-lists.next c.requires.2.reading = going (body_with c.args.at c.args.part.now) c.requires.2.reading (body_with_lem c.args.at c.args.part.now) in
+    let g = the_going in
     omega (arith, going_within g, part_length c.args.part.now c.loop-lists.i)
 
 pub overflow_sub-lists : goal.overflow_sub-lists
@@ -39,36 +47,48 @@ overflow_sub-lists t c = omega (arith, c.if-lists-gt0.true)
 
 pub overflow_add-i : goal.overflow_add-i
 overflow_add-i t c =
-    let g = (let it : Going (body_with c.args.at c.args.part.now) c.args.part.now c.args.sentence c.args.sites.now c.args.n c.loop-lists.sites c.loop-lists.i c.loop-lists.k c.loop-lists.lists c.loop-lists.next c.requires.2.reading = (let it : (b : List ℕ) (r : RecordsAt c.args.part.now) → drop c.args.at b ≡ c.args.part.now → Going b c.args.part.now c.args.sentence c.args.sites.now c.args.n c.loop-lists.sites c.loop-lists.i c.loop-lists.k c.loop-lists.lists c.loop-lists.next r = λ b r e. c.loop-lists.invariant.2 b r e in it) (body_with c.args.at c.args.part.now) c.requires.2.reading (body_with_lem c.args.at c.args.part.now) in it) in
+    let going : (b : List ℕ) (r : RecordsAt c.args.part.now) → drop c.args.at b ≡ c.args.part.now → Going b c.args.part.now c.args.sentence c.args.sites.now c.args.n c.loop-lists.sites c.loop-lists.i c.loop-lists.k c.loop-lists.lists c.loop-lists.next r = λ b r e. c.loop-lists.invariant.2 b r e in
+    let the_going : Going (body_with c.args.at c.args.part.now) c.args.part.now c.args.sentence c.args.sites.now c.args.n c.loop-lists.sites c.loop-lists.i c.loop-lists.k c.loop-lists.lists c.loop-lists.next c.requires.2.reading = going (body_with c.args.at c.args.part.now) c.requires.2.reading (body_with_lem c.args.at c.args.part.now) in
+    let g = the_going in
     omega (arith, going_within g, c.requires.0)
 
 pub loop-lists-preserved-then-m-eq15 : goal.loop-lists-preserved-then-m-eq15
 loop-lists-preserved-then-m-eq15 t c =
-    let g = (let it : Going (body_with c.args.at c.args.part.now) c.args.part.now c.args.sentence c.args.sites.now c.args.n c.loop-lists.sites c.loop-lists.i c.loop-lists.k c.loop-lists.lists c.loop-lists.next c.requires.2.reading = (let it : (b : List ℕ) (r : RecordsAt c.args.part.now) → drop c.args.at b ≡ c.args.part.now → Going b c.args.part.now c.args.sentence c.args.sites.now c.args.n c.loop-lists.sites c.loop-lists.i c.loop-lists.k c.loop-lists.lists c.loop-lists.next r = λ b r e. c.loop-lists.invariant.2 b r e in it) (body_with c.args.at c.args.part.now) c.requires.2.reading (body_with_lem c.args.at c.args.part.now) in it) in
+    let going : (b : List ℕ) (r : RecordsAt c.args.part.now) → drop c.args.at b ≡ c.args.part.now → Going b c.args.part.now c.args.sentence c.args.sites.now c.args.n c.loop-lists.sites c.loop-lists.i c.loop-lists.k c.loop-lists.lists c.loop-lists.next r = λ b r e. c.loop-lists.invariant.2 b r e in
+    let the_going : Going (body_with c.args.at c.args.part.now) c.args.part.now c.args.sentence c.args.sites.now c.args.n c.loop-lists.sites c.loop-lists.i c.loop-lists.k c.loop-lists.lists c.loop-lists.next c.requires.2.reading = going (body_with c.args.at c.args.part.now) c.requires.2.reading (body_with_lem c.args.at c.args.part.now) in
+    let g = the_going in
     let l = c.if-lists-gt0.true in
-    (omega (arith, going_within g), λ o. omega arith, λ b r e. skipped ((let it : (b : List ℕ) (r : RecordsAt c.args.part.now) → drop c.args.at b ≡ c.args.part.now → Going b c.args.part.now c.args.sentence c.args.sites.now c.args.n c.loop-lists.sites c.loop-lists.i c.loop-lists.k c.loop-lists.lists c.loop-lists.next r = λ b r e. c.loop-lists.invariant.2 b r e in it) b r e) l c.if-m-eq15.true)
+    (omega (arith, going_within g), λ o. omega arith, λ b r e. skipped (going b r e) l c.if-m-eq15.true)
 
 pub loop-lists-smaller-then-m-eq15 : goal.loop-lists-smaller-then-m-eq15
 loop-lists-smaller-then-m-eq15 t c =
-    let g = (let it : Going (body_with c.args.at c.args.part.now) c.args.part.now c.args.sentence c.args.sites.now c.args.n c.loop-lists.sites c.loop-lists.i c.loop-lists.k c.loop-lists.lists c.loop-lists.next c.requires.2.reading = (let it : (b : List ℕ) (r : RecordsAt c.args.part.now) → drop c.args.at b ≡ c.args.part.now → Going b c.args.part.now c.args.sentence c.args.sites.now c.args.n c.loop-lists.sites c.loop-lists.i c.loop-lists.k c.loop-lists.lists c.loop-lists.next r = λ b r e. c.loop-lists.invariant.2 b r e in it) (body_with c.args.at c.args.part.now) c.requires.2.reading (body_with_lem c.args.at c.args.part.now) in it) in
+    let going : (b : List ℕ) (r : RecordsAt c.args.part.now) → drop c.args.at b ≡ c.args.part.now → Going b c.args.part.now c.args.sentence c.args.sites.now c.args.n c.loop-lists.sites c.loop-lists.i c.loop-lists.k c.loop-lists.lists c.loop-lists.next r = λ b r e. c.loop-lists.invariant.2 b r e in
+    let the_going : Going (body_with c.args.at c.args.part.now) c.args.part.now c.args.sentence c.args.sites.now c.args.n c.loop-lists.sites c.loop-lists.i c.loop-lists.k c.loop-lists.lists c.loop-lists.next c.requires.2.reading = going (body_with c.args.at c.args.part.now) c.requires.2.reading (body_with_lem c.args.at c.args.part.now) in
+    let g = the_going in
     let l = c.if-lists-gt0.true in
     less-on (length c.args.part.now) (omega (arith, c.requires.0)) c.loop-lists.i _ c.loop-lists.next (omega arith) (omega (arith, going_within g)) (stands g) (stands (skipped g l c.if-m-eq15.true))
 
 pub overflow_add-at : goal.overflow_add-at
 overflow_add-at t c =
-    let g = (let it : Going (body_with c.args.at c.args.part.now) c.args.part.now c.args.sentence c.args.sites.now c.args.n c.loop-lists.sites c.loop-lists.i c.loop-lists.k c.loop-lists.lists c.loop-lists.next c.requires.2.reading = (let it : (b : List ℕ) (r : RecordsAt c.args.part.now) → drop c.args.at b ≡ c.args.part.now → Going b c.args.part.now c.args.sentence c.args.sites.now c.args.n c.loop-lists.sites c.loop-lists.i c.loop-lists.k c.loop-lists.lists c.loop-lists.next r = λ b r e. c.loop-lists.invariant.2 b r e in it) (body_with c.args.at c.args.part.now) c.requires.2.reading (body_with_lem c.args.at c.args.part.now) in it) in
+    let going : (b : List ℕ) (r : RecordsAt c.args.part.now) → drop c.args.at b ≡ c.args.part.now → Going b c.args.part.now c.args.sentence c.args.sites.now c.args.n c.loop-lists.sites c.loop-lists.i c.loop-lists.k c.loop-lists.lists c.loop-lists.next r = λ b r e. c.loop-lists.invariant.2 b r e in
+    let the_going : Going (body_with c.args.at c.args.part.now) c.args.part.now c.args.sentence c.args.sites.now c.args.n c.loop-lists.sites c.loop-lists.i c.loop-lists.k c.loop-lists.lists c.loop-lists.next c.requires.2.reading = going (body_with c.args.at c.args.part.now) c.requires.2.reading (body_with_lem c.args.at c.args.part.now) in
+    let g = the_going in
     omega (arith, going_within g, c.requires.0)
 
 pub collect_call_sites-w-requires : goal.collect_call_sites-w-requires
 collect_call_sites-w-requires t c =
-    let g = (let it : Going (body_with c.args.at c.args.part.now) c.args.part.now c.args.sentence c.args.sites.now c.args.n c.loop-lists.sites c.loop-lists.i c.loop-lists.k c.loop-lists.lists c.loop-lists.next c.requires.2.reading = (let it : (b : List ℕ) (r : RecordsAt c.args.part.now) → drop c.args.at b ≡ c.args.part.now → Going b c.args.part.now c.args.sentence c.args.sites.now c.args.n c.loop-lists.sites c.loop-lists.i c.loop-lists.k c.loop-lists.lists c.loop-lists.next r = λ b r e. c.loop-lists.invariant.2 b r e in it) (body_with c.args.at c.args.part.now) c.requires.2.reading (body_with_lem c.args.at c.args.part.now) in it) in
+    let going : (b : List ℕ) (r : RecordsAt c.args.part.now) → drop c.args.at b ≡ c.args.part.now → Going b c.args.part.now c.args.sentence c.args.sites.now c.args.n c.loop-lists.sites c.loop-lists.i c.loop-lists.k c.loop-lists.lists c.loop-lists.next r = λ b r e. c.loop-lists.invariant.2 b r e in
+    let the_going : Going (body_with c.args.at c.args.part.now) c.args.part.now c.args.sentence c.args.sites.now c.args.n c.loop-lists.sites c.loop-lists.i c.loop-lists.k c.loop-lists.lists c.loop-lists.next c.requires.2.reading = going (body_with c.args.at c.args.part.now) c.requires.2.reading (body_with_lem c.args.at c.args.part.now) in
+    let g = the_going in
     let l = c.if-lists-gt0.true in
     let p = part_length c.args.part.now c.loop-lists.i in
     (omega (arith, c.decreases, c.loop-lists.invariant.1 l, going_within g, p), (omega (arith, c.requires.0, going_within g, p), omega (arith, c.requires.1), record { reading = inner_reading g l; room = inner_room g l c.requires.2.room }))
 
 pub overflow_add-i-else-m-eq15 : goal.overflow_add-i-else-m-eq15
 overflow_add-i-else-m-eq15 t c =
-    let g = (let it : Going (body_with c.args.at c.args.part.now) c.args.part.now c.args.sentence c.args.sites.now c.args.n c.loop-lists.sites c.loop-lists.i c.loop-lists.k c.loop-lists.lists c.loop-lists.next c.requires.2.reading = (let it : (b : List ℕ) (r : RecordsAt c.args.part.now) → drop c.args.at b ≡ c.args.part.now → Going b c.args.part.now c.args.sentence c.args.sites.now c.args.n c.loop-lists.sites c.loop-lists.i c.loop-lists.k c.loop-lists.lists c.loop-lists.next r = λ b r e. c.loop-lists.invariant.2 b r e in it) (body_with c.args.at c.args.part.now) c.requires.2.reading (body_with_lem c.args.at c.args.part.now) in it) in
+    let going : (b : List ℕ) (r : RecordsAt c.args.part.now) → drop c.args.at b ≡ c.args.part.now → Going b c.args.part.now c.args.sentence c.args.sites.now c.args.n c.loop-lists.sites c.loop-lists.i c.loop-lists.k c.loop-lists.lists c.loop-lists.next r = λ b r e. c.loop-lists.invariant.2 b r e in
+    let the_going : Going (body_with c.args.at c.args.part.now) c.args.part.now c.args.sentence c.args.sites.now c.args.n c.loop-lists.sites c.loop-lists.i c.loop-lists.k c.loop-lists.lists c.loop-lists.next c.requires.2.reading = going (body_with c.args.at c.args.part.now) c.requires.2.reading (body_with_lem c.args.at c.args.part.now) in
+    let g = the_going in
     let l = c.if-lists-gt0.true in
     let w = c.collect_call_sites-w in
     let z = w.ensures (body_with c.args.at c.args.part.now) (inner_reading g l) (part_of_body (body_with c.args.at c.args.part.now) c.args.part.now c.args.at c.loop-lists.i (body_with_lem c.args.at c.args.part.now)) in
@@ -76,15 +96,19 @@ overflow_add-i-else-m-eq15 t c =
 
 pub loop-lists-preserved-else-m-eq15 : goal.loop-lists-preserved-else-m-eq15
 loop-lists-preserved-else-m-eq15 t c =
-    let g = (let it : Going (body_with c.args.at c.args.part.now) c.args.part.now c.args.sentence c.args.sites.now c.args.n c.loop-lists.sites c.loop-lists.i c.loop-lists.k c.loop-lists.lists c.loop-lists.next c.requires.2.reading = (let it : (b : List ℕ) (r : RecordsAt c.args.part.now) → drop c.args.at b ≡ c.args.part.now → Going b c.args.part.now c.args.sentence c.args.sites.now c.args.n c.loop-lists.sites c.loop-lists.i c.loop-lists.k c.loop-lists.lists c.loop-lists.next r = λ b r e. c.loop-lists.invariant.2 b r e in it) (body_with c.args.at c.args.part.now) c.requires.2.reading (body_with_lem c.args.at c.args.part.now) in it) in
+    let going : (b : List ℕ) (r : RecordsAt c.args.part.now) → drop c.args.at b ≡ c.args.part.now → Going b c.args.part.now c.args.sentence c.args.sites.now c.args.n c.loop-lists.sites c.loop-lists.i c.loop-lists.k c.loop-lists.lists c.loop-lists.next r = λ b r e. c.loop-lists.invariant.2 b r e in
+    let the_going : Going (body_with c.args.at c.args.part.now) c.args.part.now c.args.sentence c.args.sites.now c.args.n c.loop-lists.sites c.loop-lists.i c.loop-lists.k c.loop-lists.lists c.loop-lists.next c.requires.2.reading = going (body_with c.args.at c.args.part.now) c.requires.2.reading (body_with_lem c.args.at c.args.part.now) in
+    let g = the_going in
     let l = c.if-lists-gt0.true in
     let w = c.collect_call_sites-w in
     let z = w.ensures (body_with c.args.at c.args.part.now) (inner_reading g l) (part_of_body (body_with c.args.at c.args.part.now) c.args.part.now c.args.at c.loop-lists.i (body_with_lem c.args.at c.args.part.now)) in
-    ((inner_fits g l z).1, λ o. omega (arith, inner_fits g l z), λ b r e. let g = (let it : (b : List ℕ) (r : RecordsAt c.args.part.now) → drop c.args.at b ≡ c.args.part.now → Going b c.args.part.now c.args.sentence c.args.sites.now c.args.n c.loop-lists.sites c.loop-lists.i c.loop-lists.k c.loop-lists.lists c.loop-lists.next r = λ b r e. c.loop-lists.invariant.2 b r e in it) b r e in descended g l (w.ensures b (inner_reading g l) (part_of_body b c.args.part.now c.args.at c.loop-lists.i e)))
+    ((inner_fits g l z).1, λ o. omega (arith, inner_fits g l z), λ b r e. let g = going b r e in descended g l (w.ensures b (inner_reading g l) (part_of_body b c.args.part.now c.args.at c.loop-lists.i e)))
 
 pub loop-lists-smaller-else-m-eq15 : goal.loop-lists-smaller-else-m-eq15
 loop-lists-smaller-else-m-eq15 t c =
-    let g = (let it : Going (body_with c.args.at c.args.part.now) c.args.part.now c.args.sentence c.args.sites.now c.args.n c.loop-lists.sites c.loop-lists.i c.loop-lists.k c.loop-lists.lists c.loop-lists.next c.requires.2.reading = (let it : (b : List ℕ) (r : RecordsAt c.args.part.now) → drop c.args.at b ≡ c.args.part.now → Going b c.args.part.now c.args.sentence c.args.sites.now c.args.n c.loop-lists.sites c.loop-lists.i c.loop-lists.k c.loop-lists.lists c.loop-lists.next r = λ b r e. c.loop-lists.invariant.2 b r e in it) (body_with c.args.at c.args.part.now) c.requires.2.reading (body_with_lem c.args.at c.args.part.now) in it) in
+    let going : (b : List ℕ) (r : RecordsAt c.args.part.now) → drop c.args.at b ≡ c.args.part.now → Going b c.args.part.now c.args.sentence c.args.sites.now c.args.n c.loop-lists.sites c.loop-lists.i c.loop-lists.k c.loop-lists.lists c.loop-lists.next r = λ b r e. c.loop-lists.invariant.2 b r e in
+    let the_going : Going (body_with c.args.at c.args.part.now) c.args.part.now c.args.sentence c.args.sites.now c.args.n c.loop-lists.sites c.loop-lists.i c.loop-lists.k c.loop-lists.lists c.loop-lists.next c.requires.2.reading = going (body_with c.args.at c.args.part.now) c.requires.2.reading (body_with_lem c.args.at c.args.part.now) in
+    let g = the_going in
     let l = c.if-lists-gt0.true in
     let w = c.collect_call_sites-w in
     let z = w.ensures (body_with c.args.at c.args.part.now) (inner_reading g l) (part_of_body (body_with c.args.at c.args.part.now) c.args.part.now c.args.at c.loop-lists.i (body_with_lem c.args.at c.args.part.now)) in
@@ -92,14 +116,18 @@ loop-lists-smaller-else-m-eq15 t c =
 
 pub term_len-i-requires : goal.term_len-i-requires
 term_len-i-requires t c =
-    let g = (let it : Going (body_with c.args.at c.args.part.now) c.args.part.now c.args.sentence c.args.sites.now c.args.n c.loop-lists.sites c.loop-lists.i c.loop-lists.k c.loop-lists.lists c.loop-lists.next c.requires.2.reading = (let it : (b : List ℕ) (r : RecordsAt c.args.part.now) → drop c.args.at b ≡ c.args.part.now → Going b c.args.part.now c.args.sentence c.args.sites.now c.args.n c.loop-lists.sites c.loop-lists.i c.loop-lists.k c.loop-lists.lists c.loop-lists.next r = λ b r e. c.loop-lists.invariant.2 b r e in it) (body_with c.args.at c.args.part.now) c.requires.2.reading (body_with_lem c.args.at c.args.part.now) in it) in
+    let going : (b : List ℕ) (r : RecordsAt c.args.part.now) → drop c.args.at b ≡ c.args.part.now → Going b c.args.part.now c.args.sentence c.args.sites.now c.args.n c.loop-lists.sites c.loop-lists.i c.loop-lists.k c.loop-lists.lists c.loop-lists.next r = λ b r e. c.loop-lists.invariant.2 b r e in
+    let the_going : Going (body_with c.args.at c.args.part.now) c.args.part.now c.args.sentence c.args.sites.now c.args.n c.loop-lists.sites c.loop-lists.i c.loop-lists.k c.loop-lists.lists c.loop-lists.next c.requires.2.reading = going (body_with c.args.at c.args.part.now) c.requires.2.reading (body_with_lem c.args.at c.args.part.now) in
+    let g = the_going in
     let u = c.if-lists-gt0.false in
     let m = c.if-m-lt7.true in
     flat-part g u m
 
 pub overflow_add-i-then-m-lt7 : goal.overflow_add-i-then-m-lt7
 overflow_add-i-then-m-lt7 t c =
-    let g = (let it : Going (body_with c.args.at c.args.part.now) c.args.part.now c.args.sentence c.args.sites.now c.args.n c.loop-lists.sites c.loop-lists.i c.loop-lists.k c.loop-lists.lists c.loop-lists.next c.requires.2.reading = (let it : (b : List ℕ) (r : RecordsAt c.args.part.now) → drop c.args.at b ≡ c.args.part.now → Going b c.args.part.now c.args.sentence c.args.sites.now c.args.n c.loop-lists.sites c.loop-lists.i c.loop-lists.k c.loop-lists.lists c.loop-lists.next r = λ b r e. c.loop-lists.invariant.2 b r e in it) (body_with c.args.at c.args.part.now) c.requires.2.reading (body_with_lem c.args.at c.args.part.now) in it) in
+    let going : (b : List ℕ) (r : RecordsAt c.args.part.now) → drop c.args.at b ≡ c.args.part.now → Going b c.args.part.now c.args.sentence c.args.sites.now c.args.n c.loop-lists.sites c.loop-lists.i c.loop-lists.k c.loop-lists.lists c.loop-lists.next r = λ b r e. c.loop-lists.invariant.2 b r e in
+    let the_going : Going (body_with c.args.at c.args.part.now) c.args.part.now c.args.sentence c.args.sites.now c.args.n c.loop-lists.sites c.loop-lists.i c.loop-lists.k c.loop-lists.lists c.loop-lists.next c.requires.2.reading = going (body_with c.args.at c.args.part.now) c.requires.2.reading (body_with_lem c.args.at c.args.part.now) in
+    let g = the_going in
     let u = c.if-lists-gt0.false in
     let m = c.if-m-lt7.true in
     let x = c.term_len-i in
@@ -108,35 +136,45 @@ overflow_add-i-then-m-lt7 t c =
 
 pub loop-lists-preserved-then-m-lt7 : goal.loop-lists-preserved-then-m-lt7
 loop-lists-preserved-then-m-lt7 t c =
-    let g = (let it : Going (body_with c.args.at c.args.part.now) c.args.part.now c.args.sentence c.args.sites.now c.args.n c.loop-lists.sites c.loop-lists.i c.loop-lists.k c.loop-lists.lists c.loop-lists.next c.requires.2.reading = (let it : (b : List ℕ) (r : RecordsAt c.args.part.now) → drop c.args.at b ≡ c.args.part.now → Going b c.args.part.now c.args.sentence c.args.sites.now c.args.n c.loop-lists.sites c.loop-lists.i c.loop-lists.k c.loop-lists.lists c.loop-lists.next r = λ b r e. c.loop-lists.invariant.2 b r e in it) (body_with c.args.at c.args.part.now) c.requires.2.reading (body_with_lem c.args.at c.args.part.now) in it) in
+    let going : (b : List ℕ) (r : RecordsAt c.args.part.now) → drop c.args.at b ≡ c.args.part.now → Going b c.args.part.now c.args.sentence c.args.sites.now c.args.n c.loop-lists.sites c.loop-lists.i c.loop-lists.k c.loop-lists.lists c.loop-lists.next r = λ b r e. c.loop-lists.invariant.2 b r e in
+    let the_going : Going (body_with c.args.at c.args.part.now) c.args.part.now c.args.sentence c.args.sites.now c.args.n c.loop-lists.sites c.loop-lists.i c.loop-lists.k c.loop-lists.lists c.loop-lists.next c.requires.2.reading = going (body_with c.args.at c.args.part.now) c.requires.2.reading (body_with_lem c.args.at c.args.part.now) in
+    let g = the_going in
     let u = c.if-lists-gt0.false in
     let m = c.if-m-lt7.true in
     let x = c.term_len-i in
     let f = flat_fits g u m x.result (x.ensures Mode.result (flat-part g u m)) in
-    (f.1, λ l. omega (arith, f), λ b r e. let g = (let it : (b : List ℕ) (r : RecordsAt c.args.part.now) → drop c.args.at b ≡ c.args.part.now → Going b c.args.part.now c.args.sentence c.args.sites.now c.args.n c.loop-lists.sites c.loop-lists.i c.loop-lists.k c.loop-lists.lists c.loop-lists.next r = λ b r e. c.loop-lists.invariant.2 b r e in it) b r e in flat_passed g u m x.result (x.ensures Mode.result (flat-part g u m)))
+    (f.1, λ l. omega (arith, f), λ b r e. let g = going b r e in flat_passed g u m x.result (x.ensures Mode.result (flat-part g u m)))
 
 pub loop-lists-smaller-then-m-lt7 : goal.loop-lists-smaller-then-m-lt7
 loop-lists-smaller-then-m-lt7 t c =
-    let g = (let it : Going (body_with c.args.at c.args.part.now) c.args.part.now c.args.sentence c.args.sites.now c.args.n c.loop-lists.sites c.loop-lists.i c.loop-lists.k c.loop-lists.lists c.loop-lists.next c.requires.2.reading = (let it : (b : List ℕ) (r : RecordsAt c.args.part.now) → drop c.args.at b ≡ c.args.part.now → Going b c.args.part.now c.args.sentence c.args.sites.now c.args.n c.loop-lists.sites c.loop-lists.i c.loop-lists.k c.loop-lists.lists c.loop-lists.next r = λ b r e. c.loop-lists.invariant.2 b r e in it) (body_with c.args.at c.args.part.now) c.requires.2.reading (body_with_lem c.args.at c.args.part.now) in it) in
+    let going : (b : List ℕ) (r : RecordsAt c.args.part.now) → drop c.args.at b ≡ c.args.part.now → Going b c.args.part.now c.args.sentence c.args.sites.now c.args.n c.loop-lists.sites c.loop-lists.i c.loop-lists.k c.loop-lists.lists c.loop-lists.next r = λ b r e. c.loop-lists.invariant.2 b r e in
+    let the_going : Going (body_with c.args.at c.args.part.now) c.args.part.now c.args.sentence c.args.sites.now c.args.n c.loop-lists.sites c.loop-lists.i c.loop-lists.k c.loop-lists.lists c.loop-lists.next c.requires.2.reading = going (body_with c.args.at c.args.part.now) c.requires.2.reading (body_with_lem c.args.at c.args.part.now) in
+    let g = the_going in
     let u = c.if-lists-gt0.false in
     let m = c.if-m-lt7.true in
     let x = c.term_len-i in
     let f = flat_fits g u m x.result (x.ensures Mode.result (flat-part g u m)) in
     less-on (length c.args.part.now) (omega (arith, c.requires.0)) c.loop-lists.i _ c.loop-lists.next (omega (arith, f)) f.1 (stands g) (stands (flat_passed g u m x.result (x.ensures Mode.result (flat-part g u m))))
 
-pub overflow_add-at-then-m-eq8 : goal.overflow_add-at-then-m-eq8
-overflow_add-at-then-m-eq8 t c =
-    let g = (let it : Going (body_with c.args.at c.args.part.now) c.args.part.now c.args.sentence c.args.sites.now c.args.n c.loop-lists.sites c.loop-lists.i c.loop-lists.k c.loop-lists.lists c.loop-lists.next c.requires.2.reading = (let it : (b : List ℕ) (r : RecordsAt c.args.part.now) → drop c.args.at b ≡ c.args.part.now → Going b c.args.part.now c.args.sentence c.args.sites.now c.args.n c.loop-lists.sites c.loop-lists.i c.loop-lists.k c.loop-lists.lists c.loop-lists.next r = λ b r e. c.loop-lists.invariant.2 b r e in it) (body_with c.args.at c.args.part.now) c.requires.2.reading (body_with_lem c.args.at c.args.part.now) in it) in
+pub overflow_add-place : goal.overflow_add-place
+overflow_add-place t c =
+    let going : (b : List ℕ) (r : RecordsAt c.args.part.now) → drop c.args.at b ≡ c.args.part.now → Going b c.args.part.now c.args.sentence c.args.sites.now c.args.n c.loop-lists.sites c.loop-lists.i c.loop-lists.k c.loop-lists.lists c.loop-lists.next r = λ b r e. c.loop-lists.invariant.2 b r e in
+    let the_going : Going (body_with c.args.at c.args.part.now) c.args.part.now c.args.sentence c.args.sites.now c.args.n c.loop-lists.sites c.loop-lists.i c.loop-lists.k c.loop-lists.lists c.loop-lists.next c.requires.2.reading = going (body_with c.args.at c.args.part.now) c.requires.2.reading (body_with_lem c.args.at c.args.part.now) in
+    let g = the_going in
     omega (arith, going_within g, c.requires.0)
 
-pub entry_of-requires : goal.entry_of-requires
-entry_of-requires t c =
-    let g = (let it : Going (body_with c.args.at c.args.part.now) c.args.part.now c.args.sentence c.args.sites.now c.args.n c.loop-lists.sites c.loop-lists.i c.loop-lists.k c.loop-lists.lists c.loop-lists.next c.requires.2.reading = (let it : (b : List ℕ) (r : RecordsAt c.args.part.now) → drop c.args.at b ≡ c.args.part.now → Going b c.args.part.now c.args.sentence c.args.sites.now c.args.n c.loop-lists.sites c.loop-lists.i c.loop-lists.k c.loop-lists.lists c.loop-lists.next r = λ b r e. c.loop-lists.invariant.2 b r e in it) (body_with c.args.at c.args.part.now) c.requires.2.reading (body_with_lem c.args.at c.args.part.now) in it) in
+pub packed-requires : goal.packed-requires
+packed-requires t c =
+    let going : (b : List ℕ) (r : RecordsAt c.args.part.now) → drop c.args.at b ≡ c.args.part.now → Going b c.args.part.now c.args.sentence c.args.sites.now c.args.n c.loop-lists.sites c.loop-lists.i c.loop-lists.k c.loop-lists.lists c.loop-lists.next r = λ b r e. c.loop-lists.invariant.2 b r e in
+    let the_going : Going (body_with c.args.at c.args.part.now) c.args.part.now c.args.sentence c.args.sites.now c.args.n c.loop-lists.sites c.loop-lists.i c.loop-lists.k c.loop-lists.lists c.loop-lists.next c.requires.2.reading = going (body_with c.args.at c.args.part.now) c.requires.2.reading (body_with_lem c.args.at c.args.part.now) in
+    let g = the_going in
     (omega (arith, going_within g, c.requires.0), c.requires.1)
 
 pub offset_bounds-sites-k : goal.offset_bounds-sites-k
 offset_bounds-sites-k t c =
-    let g = (let it : Going (body_with c.args.at c.args.part.now) c.args.part.now c.args.sentence c.args.sites.now c.args.n c.loop-lists.sites c.loop-lists.i c.loop-lists.k c.loop-lists.lists c.loop-lists.next c.requires.2.reading = (let it : (b : List ℕ) (r : RecordsAt c.args.part.now) → drop c.args.at b ≡ c.args.part.now → Going b c.args.part.now c.args.sentence c.args.sites.now c.args.n c.loop-lists.sites c.loop-lists.i c.loop-lists.k c.loop-lists.lists c.loop-lists.next r = λ b r e. c.loop-lists.invariant.2 b r e in it) (body_with c.args.at c.args.part.now) c.requires.2.reading (body_with_lem c.args.at c.args.part.now) in it) in
+    let going : (b : List ℕ) (r : RecordsAt c.args.part.now) → drop c.args.at b ≡ c.args.part.now → Going b c.args.part.now c.args.sentence c.args.sites.now c.args.n c.loop-lists.sites c.loop-lists.i c.loop-lists.k c.loop-lists.lists c.loop-lists.next r = λ b r e. c.loop-lists.invariant.2 b r e in
+    let the_going : Going (body_with c.args.at c.args.part.now) c.args.part.now c.args.sentence c.args.sites.now c.args.n c.loop-lists.sites c.loop-lists.i c.loop-lists.k c.loop-lists.lists c.loop-lists.next c.requires.2.reading = going (body_with c.args.at c.args.part.now) c.requires.2.reading (body_with_lem c.args.at c.args.part.now) in
+    let g = the_going in
     let u = c.if-lists-gt0.false in
     let m = c.if-m-eq8.true in
     let l = call-space g u m c.requires.2.room in
@@ -144,7 +182,9 @@ offset_bounds-sites-k t c =
 
 pub bounds-sites-k : goal.bounds-sites-k
 bounds-sites-k t c =
-    let g = (let it : Going (body_with c.args.at c.args.part.now) c.args.part.now c.args.sentence c.args.sites.now c.args.n c.loop-lists.sites c.loop-lists.i c.loop-lists.k c.loop-lists.lists c.loop-lists.next c.requires.2.reading = (let it : (b : List ℕ) (r : RecordsAt c.args.part.now) → drop c.args.at b ≡ c.args.part.now → Going b c.args.part.now c.args.sentence c.args.sites.now c.args.n c.loop-lists.sites c.loop-lists.i c.loop-lists.k c.loop-lists.lists c.loop-lists.next r = λ b r e. c.loop-lists.invariant.2 b r e in it) (body_with c.args.at c.args.part.now) c.requires.2.reading (body_with_lem c.args.at c.args.part.now) in it) in
+    let going : (b : List ℕ) (r : RecordsAt c.args.part.now) → drop c.args.at b ≡ c.args.part.now → Going b c.args.part.now c.args.sentence c.args.sites.now c.args.n c.loop-lists.sites c.loop-lists.i c.loop-lists.k c.loop-lists.lists c.loop-lists.next r = λ b r e. c.loop-lists.invariant.2 b r e in
+    let the_going : Going (body_with c.args.at c.args.part.now) c.args.part.now c.args.sentence c.args.sites.now c.args.n c.loop-lists.sites c.loop-lists.i c.loop-lists.k c.loop-lists.lists c.loop-lists.next c.requires.2.reading = going (body_with c.args.at c.args.part.now) c.requires.2.reading (body_with_lem c.args.at c.args.part.now) in
+    let g = the_going in
     let u = c.if-lists-gt0.false in
     let m = c.if-m-eq8.true in
     let l = call-space g u m c.requires.2.room in
@@ -152,7 +192,9 @@ bounds-sites-k t c =
 
 pub overflow_add-k : goal.overflow_add-k
 overflow_add-k t c =
-    let g = (let it : Going (body_with c.args.at c.args.part.now) c.args.part.now c.args.sentence c.args.sites.now c.args.n c.loop-lists.sites c.loop-lists.i c.loop-lists.k c.loop-lists.lists c.loop-lists.next c.requires.2.reading = (let it : (b : List ℕ) (r : RecordsAt c.args.part.now) → drop c.args.at b ≡ c.args.part.now → Going b c.args.part.now c.args.sentence c.args.sites.now c.args.n c.loop-lists.sites c.loop-lists.i c.loop-lists.k c.loop-lists.lists c.loop-lists.next r = λ b r e. c.loop-lists.invariant.2 b r e in it) (body_with c.args.at c.args.part.now) c.requires.2.reading (body_with_lem c.args.at c.args.part.now) in it) in
+    let going : (b : List ℕ) (r : RecordsAt c.args.part.now) → drop c.args.at b ≡ c.args.part.now → Going b c.args.part.now c.args.sentence c.args.sites.now c.args.n c.loop-lists.sites c.loop-lists.i c.loop-lists.k c.loop-lists.lists c.loop-lists.next r = λ b r e. c.loop-lists.invariant.2 b r e in
+    let the_going : Going (body_with c.args.at c.args.part.now) c.args.part.now c.args.sentence c.args.sites.now c.args.n c.loop-lists.sites c.loop-lists.i c.loop-lists.k c.loop-lists.lists c.loop-lists.next c.requires.2.reading = going (body_with c.args.at c.args.part.now) c.requires.2.reading (body_with_lem c.args.at c.args.part.now) in
+    let g = the_going in
     let u = c.if-lists-gt0.false in
     let m = c.if-m-eq8.true in
     let l = call-space g u m c.requires.2.room in
@@ -160,14 +202,18 @@ overflow_add-k t c =
 
 pub call_argument-i-requires : goal.call_argument-i-requires
 call_argument-i-requires t c =
-    let g = (let it : Going (body_with c.args.at c.args.part.now) c.args.part.now c.args.sentence c.args.sites.now c.args.n c.loop-lists.sites c.loop-lists.i c.loop-lists.k c.loop-lists.lists c.loop-lists.next c.requires.2.reading = (let it : (b : List ℕ) (r : RecordsAt c.args.part.now) → drop c.args.at b ≡ c.args.part.now → Going b c.args.part.now c.args.sentence c.args.sites.now c.args.n c.loop-lists.sites c.loop-lists.i c.loop-lists.k c.loop-lists.lists c.loop-lists.next r = λ b r e. c.loop-lists.invariant.2 b r e in it) (body_with c.args.at c.args.part.now) c.requires.2.reading (body_with_lem c.args.at c.args.part.now) in it) in
+    let going : (b : List ℕ) (r : RecordsAt c.args.part.now) → drop c.args.at b ≡ c.args.part.now → Going b c.args.part.now c.args.sentence c.args.sites.now c.args.n c.loop-lists.sites c.loop-lists.i c.loop-lists.k c.loop-lists.lists c.loop-lists.next r = λ b r e. c.loop-lists.invariant.2 b r e in
+    let the_going : Going (body_with c.args.at c.args.part.now) c.args.part.now c.args.sentence c.args.sites.now c.args.n c.loop-lists.sites c.loop-lists.i c.loop-lists.k c.loop-lists.lists c.loop-lists.next c.requires.2.reading = going (body_with c.args.at c.args.part.now) c.requires.2.reading (body_with_lem c.args.at c.args.part.now) in
+    let g = the_going in
     let u = c.if-lists-gt0.false in
     let m = c.if-m-eq8.true in
     call_part g u m
 
 pub overflow_add-i-then-m-eq8 : goal.overflow_add-i-then-m-eq8
 overflow_add-i-then-m-eq8 t c =
-    let g = (let it : Going (body_with c.args.at c.args.part.now) c.args.part.now c.args.sentence c.args.sites.now c.args.n c.loop-lists.sites c.loop-lists.i c.loop-lists.k c.loop-lists.lists c.loop-lists.next c.requires.2.reading = (let it : (b : List ℕ) (r : RecordsAt c.args.part.now) → drop c.args.at b ≡ c.args.part.now → Going b c.args.part.now c.args.sentence c.args.sites.now c.args.n c.loop-lists.sites c.loop-lists.i c.loop-lists.k c.loop-lists.lists c.loop-lists.next r = λ b r e. c.loop-lists.invariant.2 b r e in it) (body_with c.args.at c.args.part.now) c.requires.2.reading (body_with_lem c.args.at c.args.part.now) in it) in
+    let going : (b : List ℕ) (r : RecordsAt c.args.part.now) → drop c.args.at b ≡ c.args.part.now → Going b c.args.part.now c.args.sentence c.args.sites.now c.args.n c.loop-lists.sites c.loop-lists.i c.loop-lists.k c.loop-lists.lists c.loop-lists.next r = λ b r e. c.loop-lists.invariant.2 b r e in
+    let the_going : Going (body_with c.args.at c.args.part.now) c.args.part.now c.args.sentence c.args.sites.now c.args.n c.loop-lists.sites c.loop-lists.i c.loop-lists.k c.loop-lists.lists c.loop-lists.next c.requires.2.reading = going (body_with c.args.at c.args.part.now) c.requires.2.reading (body_with_lem c.args.at c.args.part.now) in
+    let g = the_going in
     let u = c.if-lists-gt0.false in
     let m = c.if-m-eq8.true in
     let a = c.call_argument-i in
@@ -176,36 +222,44 @@ overflow_add-i-then-m-eq8 t c =
 
 pub loop-lists-preserved-then-m-eq8 : goal.loop-lists-preserved-then-m-eq8
 loop-lists-preserved-then-m-eq8 t c =
-    let g = (let it : Going (body_with c.args.at c.args.part.now) c.args.part.now c.args.sentence c.args.sites.now c.args.n c.loop-lists.sites c.loop-lists.i c.loop-lists.k c.loop-lists.lists c.loop-lists.next c.requires.2.reading = (let it : (b : List ℕ) (r : RecordsAt c.args.part.now) → drop c.args.at b ≡ c.args.part.now → Going b c.args.part.now c.args.sentence c.args.sites.now c.args.n c.loop-lists.sites c.loop-lists.i c.loop-lists.k c.loop-lists.lists c.loop-lists.next r = λ b r e. c.loop-lists.invariant.2 b r e in it) (body_with c.args.at c.args.part.now) c.requires.2.reading (body_with_lem c.args.at c.args.part.now) in it) in
+    let going : (b : List ℕ) (r : RecordsAt c.args.part.now) → drop c.args.at b ≡ c.args.part.now → Going b c.args.part.now c.args.sentence c.args.sites.now c.args.n c.loop-lists.sites c.loop-lists.i c.loop-lists.k c.loop-lists.lists c.loop-lists.next r = λ b r e. c.loop-lists.invariant.2 b r e in
+    let the_going : Going (body_with c.args.at c.args.part.now) c.args.part.now c.args.sentence c.args.sites.now c.args.n c.loop-lists.sites c.loop-lists.i c.loop-lists.k c.loop-lists.lists c.loop-lists.next c.requires.2.reading = going (body_with c.args.at c.args.part.now) c.requires.2.reading (body_with_lem c.args.at c.args.part.now) in
+    let g = the_going in
     let u = c.if-lists-gt0.false in
     let m = c.if-m-eq8.true in
     let a = c.call_argument-i in
     let f = argument-fits g u m a.result (a.ensures (call_part g u m)) in
-    let y = c.entry_of in
+    let y = c.packed in
     let l = call-space g u m c.requires.2.room in
-    (f.1, λ l. omega (arith, f), λ b r e. let g = (let it : (b : List ℕ) (r : RecordsAt c.args.part.now) → drop c.args.at b ≡ c.args.part.now → Going b c.args.part.now c.args.sentence c.args.sites.now c.args.n c.loop-lists.sites c.loop-lists.i c.loop-lists.k c.loop-lists.lists c.loop-lists.next r = λ b r e. c.loop-lists.invariant.2 b r e in it) b r e in call-passed g u m a.result (a.ensures (call_part g u m)) c.args.at y.result e y.ensures l)
+    (f.1, λ l. omega (arith, f), λ b r e. let g = going b r e in call-passed g u m a.result (a.ensures (call_part g u m)) c.args.at y.result e y.ensures l)
 
 pub loop-lists-smaller-then-m-eq8 : goal.loop-lists-smaller-then-m-eq8
 loop-lists-smaller-then-m-eq8 t c =
-    let g = (let it : Going (body_with c.args.at c.args.part.now) c.args.part.now c.args.sentence c.args.sites.now c.args.n c.loop-lists.sites c.loop-lists.i c.loop-lists.k c.loop-lists.lists c.loop-lists.next c.requires.2.reading = (let it : (b : List ℕ) (r : RecordsAt c.args.part.now) → drop c.args.at b ≡ c.args.part.now → Going b c.args.part.now c.args.sentence c.args.sites.now c.args.n c.loop-lists.sites c.loop-lists.i c.loop-lists.k c.loop-lists.lists c.loop-lists.next r = λ b r e. c.loop-lists.invariant.2 b r e in it) (body_with c.args.at c.args.part.now) c.requires.2.reading (body_with_lem c.args.at c.args.part.now) in it) in
+    let going : (b : List ℕ) (r : RecordsAt c.args.part.now) → drop c.args.at b ≡ c.args.part.now → Going b c.args.part.now c.args.sentence c.args.sites.now c.args.n c.loop-lists.sites c.loop-lists.i c.loop-lists.k c.loop-lists.lists c.loop-lists.next r = λ b r e. c.loop-lists.invariant.2 b r e in
+    let the_going : Going (body_with c.args.at c.args.part.now) c.args.part.now c.args.sentence c.args.sites.now c.args.n c.loop-lists.sites c.loop-lists.i c.loop-lists.k c.loop-lists.lists c.loop-lists.next c.requires.2.reading = going (body_with c.args.at c.args.part.now) c.requires.2.reading (body_with_lem c.args.at c.args.part.now) in
+    let g = the_going in
     let u = c.if-lists-gt0.false in
     let m = c.if-m-eq8.true in
     let a = c.call_argument-i in
     let f = argument-fits g u m a.result (a.ensures (call_part g u m)) in
-    let y = c.entry_of in
+    let y = c.packed in
     let l = call-space g u m c.requires.2.room in
     less-on (length c.args.part.now) (omega (arith, c.requires.0)) c.loop-lists.i _ c.loop-lists.next (omega (arith, f)) f.1 (stands g) (stands (call-passed g u m a.result (a.ensures (call_part g u m)) c.args.at y.result (body_with_lem c.args.at c.args.part.now) y.ensures l))
 
 pub conditions_start-requires : goal.conditions_start-requires
 conditions_start-requires t c =
-    let g = (let it : Going (body_with c.args.at c.args.part.now) c.args.part.now c.args.sentence c.args.sites.now c.args.n c.loop-lists.sites c.loop-lists.i c.loop-lists.k c.loop-lists.lists c.loop-lists.next c.requires.2.reading = (let it : (b : List ℕ) (r : RecordsAt c.args.part.now) → drop c.args.at b ≡ c.args.part.now → Going b c.args.part.now c.args.sentence c.args.sites.now c.args.n c.loop-lists.sites c.loop-lists.i c.loop-lists.k c.loop-lists.lists c.loop-lists.next r = λ b r e. c.loop-lists.invariant.2 b r e in it) (body_with c.args.at c.args.part.now) c.requires.2.reading (body_with_lem c.args.at c.args.part.now) in it) in
+    let going : (b : List ℕ) (r : RecordsAt c.args.part.now) → drop c.args.at b ≡ c.args.part.now → Going b c.args.part.now c.args.sentence c.args.sites.now c.args.n c.loop-lists.sites c.loop-lists.i c.loop-lists.k c.loop-lists.lists c.loop-lists.next r = λ b r e. c.loop-lists.invariant.2 b r e in
+    let the_going : Going (body_with c.args.at c.args.part.now) c.args.part.now c.args.sentence c.args.sites.now c.args.n c.loop-lists.sites c.loop-lists.i c.loop-lists.k c.loop-lists.lists c.loop-lists.next c.requires.2.reading = going (body_with c.args.at c.args.part.now) c.requires.2.reading (body_with_lem c.args.at c.args.part.now) in
+    let g = the_going in
     let u = c.if-lists-gt0.false in
     let m = c.if-m-eq10.true in
     sentence-part g u m
 
 pub overflow_add-next : goal.overflow_add-next
 overflow_add-next t c =
-    let g = (let it : Going (body_with c.args.at c.args.part.now) c.args.part.now c.args.sentence c.args.sites.now c.args.n c.loop-lists.sites c.loop-lists.i c.loop-lists.k c.loop-lists.lists c.loop-lists.next c.requires.2.reading = (let it : (b : List ℕ) (r : RecordsAt c.args.part.now) → drop c.args.at b ≡ c.args.part.now → Going b c.args.part.now c.args.sentence c.args.sites.now c.args.n c.loop-lists.sites c.loop-lists.i c.loop-lists.k c.loop-lists.lists c.loop-lists.next r = λ b r e. c.loop-lists.invariant.2 b r e in it) (body_with c.args.at c.args.part.now) c.requires.2.reading (body_with_lem c.args.at c.args.part.now) in it) in
+    let going : (b : List ℕ) (r : RecordsAt c.args.part.now) → drop c.args.at b ≡ c.args.part.now → Going b c.args.part.now c.args.sentence c.args.sites.now c.args.n c.loop-lists.sites c.loop-lists.i c.loop-lists.k c.loop-lists.lists c.loop-lists.next r = λ b r e. c.loop-lists.invariant.2 b r e in
+    let the_going : Going (body_with c.args.at c.args.part.now) c.args.part.now c.args.sentence c.args.sites.now c.args.n c.loop-lists.sites c.loop-lists.i c.loop-lists.k c.loop-lists.lists c.loop-lists.next c.requires.2.reading = going (body_with c.args.at c.args.part.now) c.requires.2.reading (body_with_lem c.args.at c.args.part.now) in
+    let g = the_going in
     let u = c.if-lists-gt0.false in
     let m = c.if-m-eq10.true in
     let y = c.conditions_start in
@@ -214,14 +268,18 @@ overflow_add-next t c =
 
 pub result_start-i-requires : goal.result_start-i-requires
 result_start-i-requires t c =
-    let g = (let it : Going (body_with c.args.at c.args.part.now) c.args.part.now c.args.sentence c.args.sites.now c.args.n c.loop-lists.sites c.loop-lists.i c.loop-lists.k c.loop-lists.lists c.loop-lists.next c.requires.2.reading = (let it : (b : List ℕ) (r : RecordsAt c.args.part.now) → drop c.args.at b ≡ c.args.part.now → Going b c.args.part.now c.args.sentence c.args.sites.now c.args.n c.loop-lists.sites c.loop-lists.i c.loop-lists.k c.loop-lists.lists c.loop-lists.next r = λ b r e. c.loop-lists.invariant.2 b r e in it) (body_with c.args.at c.args.part.now) c.requires.2.reading (body_with_lem c.args.at c.args.part.now) in it) in
+    let going : (b : List ℕ) (r : RecordsAt c.args.part.now) → drop c.args.at b ≡ c.args.part.now → Going b c.args.part.now c.args.sentence c.args.sites.now c.args.n c.loop-lists.sites c.loop-lists.i c.loop-lists.k c.loop-lists.lists c.loop-lists.next r = λ b r e. c.loop-lists.invariant.2 b r e in
+    let the_going : Going (body_with c.args.at c.args.part.now) c.args.part.now c.args.sentence c.args.sites.now c.args.n c.loop-lists.sites c.loop-lists.i c.loop-lists.k c.loop-lists.lists c.loop-lists.next c.requires.2.reading = going (body_with c.args.at c.args.part.now) c.requires.2.reading (body_with_lem c.args.at c.args.part.now) in
+    let g = the_going in
     let u = c.if-lists-gt0.false in
     let m = c.if-m-eq10.true in
     sentence-part g u m
 
 pub overflow_add-i-then-m-eq10 : goal.overflow_add-i-then-m-eq10
 overflow_add-i-then-m-eq10 t c =
-    let g = (let it : Going (body_with c.args.at c.args.part.now) c.args.part.now c.args.sentence c.args.sites.now c.args.n c.loop-lists.sites c.loop-lists.i c.loop-lists.k c.loop-lists.lists c.loop-lists.next c.requires.2.reading = (let it : (b : List ℕ) (r : RecordsAt c.args.part.now) → drop c.args.at b ≡ c.args.part.now → Going b c.args.part.now c.args.sentence c.args.sites.now c.args.n c.loop-lists.sites c.loop-lists.i c.loop-lists.k c.loop-lists.lists c.loop-lists.next r = λ b r e. c.loop-lists.invariant.2 b r e in it) (body_with c.args.at c.args.part.now) c.requires.2.reading (body_with_lem c.args.at c.args.part.now) in it) in
+    let going : (b : List ℕ) (r : RecordsAt c.args.part.now) → drop c.args.at b ≡ c.args.part.now → Going b c.args.part.now c.args.sentence c.args.sites.now c.args.n c.loop-lists.sites c.loop-lists.i c.loop-lists.k c.loop-lists.lists c.loop-lists.next r = λ b r e. c.loop-lists.invariant.2 b r e in
+    let the_going : Going (body_with c.args.at c.args.part.now) c.args.part.now c.args.sentence c.args.sites.now c.args.n c.loop-lists.sites c.loop-lists.i c.loop-lists.k c.loop-lists.lists c.loop-lists.next c.requires.2.reading = going (body_with c.args.at c.args.part.now) c.requires.2.reading (body_with_lem c.args.at c.args.part.now) in
+    let g = the_going in
     let u = c.if-lists-gt0.false in
     let m = c.if-m-eq10.true in
     let y = c.conditions_start in
@@ -232,18 +290,22 @@ overflow_add-i-then-m-eq10 t c =
 
 pub loop-lists-preserved-then-m-eq10 : goal.loop-lists-preserved-then-m-eq10
 loop-lists-preserved-then-m-eq10 t c =
-    let g = (let it : Going (body_with c.args.at c.args.part.now) c.args.part.now c.args.sentence c.args.sites.now c.args.n c.loop-lists.sites c.loop-lists.i c.loop-lists.k c.loop-lists.lists c.loop-lists.next c.requires.2.reading = (let it : (b : List ℕ) (r : RecordsAt c.args.part.now) → drop c.args.at b ≡ c.args.part.now → Going b c.args.part.now c.args.sentence c.args.sites.now c.args.n c.loop-lists.sites c.loop-lists.i c.loop-lists.k c.loop-lists.lists c.loop-lists.next r = λ b r e. c.loop-lists.invariant.2 b r e in it) (body_with c.args.at c.args.part.now) c.requires.2.reading (body_with_lem c.args.at c.args.part.now) in it) in
+    let going : (b : List ℕ) (r : RecordsAt c.args.part.now) → drop c.args.at b ≡ c.args.part.now → Going b c.args.part.now c.args.sentence c.args.sites.now c.args.n c.loop-lists.sites c.loop-lists.i c.loop-lists.k c.loop-lists.lists c.loop-lists.next r = λ b r e. c.loop-lists.invariant.2 b r e in
+    let the_going : Going (body_with c.args.at c.args.part.now) c.args.part.now c.args.sentence c.args.sites.now c.args.n c.loop-lists.sites c.loop-lists.i c.loop-lists.k c.loop-lists.lists c.loop-lists.next c.requires.2.reading = going (body_with c.args.at c.args.part.now) c.requires.2.reading (body_with_lem c.args.at c.args.part.now) in
+    let g = the_going in
     let u = c.if-lists-gt0.false in
     let m = c.if-m-eq10.true in
     let y = c.conditions_start in
     let a = c.result_start-i in
     let d = conditions-fits g u m y.result (y.ensures (sentence-part g u m)) in
     let f = result_fits g u m y.result (y.ensures (sentence-part g u m)) a.result (a.ensures (sentence-part g u m)) in
-    (f.1, λ l. omega (arith, f), λ b r e. let g = (let it : (b : List ℕ) (r : RecordsAt c.args.part.now) → drop c.args.at b ≡ c.args.part.now → Going b c.args.part.now c.args.sentence c.args.sites.now c.args.n c.loop-lists.sites c.loop-lists.i c.loop-lists.k c.loop-lists.lists c.loop-lists.next r = λ b r e. c.loop-lists.invariant.2 b r e in it) b r e in sentence-entered g u m y.result (y.ensures (sentence-part g u m)) a.result (a.ensures (sentence-part g u m)))
+    (f.1, λ l. omega (arith, f), λ b r e. let g = going b r e in sentence-entered g u m y.result (y.ensures (sentence-part g u m)) a.result (a.ensures (sentence-part g u m)))
 
 pub loop-lists-smaller-then-m-eq10 : goal.loop-lists-smaller-then-m-eq10
 loop-lists-smaller-then-m-eq10 t c =
-    let g = (let it : Going (body_with c.args.at c.args.part.now) c.args.part.now c.args.sentence c.args.sites.now c.args.n c.loop-lists.sites c.loop-lists.i c.loop-lists.k c.loop-lists.lists c.loop-lists.next c.requires.2.reading = (let it : (b : List ℕ) (r : RecordsAt c.args.part.now) → drop c.args.at b ≡ c.args.part.now → Going b c.args.part.now c.args.sentence c.args.sites.now c.args.n c.loop-lists.sites c.loop-lists.i c.loop-lists.k c.loop-lists.lists c.loop-lists.next r = λ b r e. c.loop-lists.invariant.2 b r e in it) (body_with c.args.at c.args.part.now) c.requires.2.reading (body_with_lem c.args.at c.args.part.now) in it) in
+    let going : (b : List ℕ) (r : RecordsAt c.args.part.now) → drop c.args.at b ≡ c.args.part.now → Going b c.args.part.now c.args.sentence c.args.sites.now c.args.n c.loop-lists.sites c.loop-lists.i c.loop-lists.k c.loop-lists.lists c.loop-lists.next r = λ b r e. c.loop-lists.invariant.2 b r e in
+    let the_going : Going (body_with c.args.at c.args.part.now) c.args.part.now c.args.sentence c.args.sites.now c.args.n c.loop-lists.sites c.loop-lists.i c.loop-lists.k c.loop-lists.lists c.loop-lists.next c.requires.2.reading = going (body_with c.args.at c.args.part.now) c.requires.2.reading (body_with_lem c.args.at c.args.part.now) in
+    let g = the_going in
     let u = c.if-lists-gt0.false in
     let m = c.if-m-eq10.true in
     let y = c.conditions_start in
@@ -254,59 +316,77 @@ loop-lists-smaller-then-m-eq10 t c =
 
 pub overflow_add-i-then-m-lt12 : goal.overflow_add-i-then-m-lt12
 overflow_add-i-then-m-lt12 t c =
-    let g = (let it : Going (body_with c.args.at c.args.part.now) c.args.part.now c.args.sentence c.args.sites.now c.args.n c.loop-lists.sites c.loop-lists.i c.loop-lists.k c.loop-lists.lists c.loop-lists.next c.requires.2.reading = (let it : (b : List ℕ) (r : RecordsAt c.args.part.now) → drop c.args.at b ≡ c.args.part.now → Going b c.args.part.now c.args.sentence c.args.sites.now c.args.n c.loop-lists.sites c.loop-lists.i c.loop-lists.k c.loop-lists.lists c.loop-lists.next r = λ b r e. c.loop-lists.invariant.2 b r e in it) (body_with c.args.at c.args.part.now) c.requires.2.reading (body_with_lem c.args.at c.args.part.now) in it) in
+    let going : (b : List ℕ) (r : RecordsAt c.args.part.now) → drop c.args.at b ≡ c.args.part.now → Going b c.args.part.now c.args.sentence c.args.sites.now c.args.n c.loop-lists.sites c.loop-lists.i c.loop-lists.k c.loop-lists.lists c.loop-lists.next r = λ b r e. c.loop-lists.invariant.2 b r e in
+    let the_going : Going (body_with c.args.at c.args.part.now) c.args.part.now c.args.sentence c.args.sites.now c.args.n c.loop-lists.sites c.loop-lists.i c.loop-lists.k c.loop-lists.lists c.loop-lists.next c.requires.2.reading = going (body_with c.args.at c.args.part.now) c.requires.2.reading (body_with_lem c.args.at c.args.part.now) in
+    let g = the_going in
     let u = c.if-lists-gt0.false in
     let f = inside-fits g u c.if-m-lt7.false c.if-m-eq8.false c.if-m-eq10.false c.if-m-lt12.true in
     omega (arith, f, c.requires.0)
 
 pub loop-lists-preserved-then-m-lt12 : goal.loop-lists-preserved-then-m-lt12
 loop-lists-preserved-then-m-lt12 t c =
-    let g = (let it : Going (body_with c.args.at c.args.part.now) c.args.part.now c.args.sentence c.args.sites.now c.args.n c.loop-lists.sites c.loop-lists.i c.loop-lists.k c.loop-lists.lists c.loop-lists.next c.requires.2.reading = (let it : (b : List ℕ) (r : RecordsAt c.args.part.now) → drop c.args.at b ≡ c.args.part.now → Going b c.args.part.now c.args.sentence c.args.sites.now c.args.n c.loop-lists.sites c.loop-lists.i c.loop-lists.k c.loop-lists.lists c.loop-lists.next r = λ b r e. c.loop-lists.invariant.2 b r e in it) (body_with c.args.at c.args.part.now) c.requires.2.reading (body_with_lem c.args.at c.args.part.now) in it) in
+    let going : (b : List ℕ) (r : RecordsAt c.args.part.now) → drop c.args.at b ≡ c.args.part.now → Going b c.args.part.now c.args.sentence c.args.sites.now c.args.n c.loop-lists.sites c.loop-lists.i c.loop-lists.k c.loop-lists.lists c.loop-lists.next r = λ b r e. c.loop-lists.invariant.2 b r e in
+    let the_going : Going (body_with c.args.at c.args.part.now) c.args.part.now c.args.sentence c.args.sites.now c.args.n c.loop-lists.sites c.loop-lists.i c.loop-lists.k c.loop-lists.lists c.loop-lists.next c.requires.2.reading = going (body_with c.args.at c.args.part.now) c.requires.2.reading (body_with_lem c.args.at c.args.part.now) in
+    let g = the_going in
     let u = c.if-lists-gt0.false in
     let f = inside-fits g u c.if-m-lt7.false c.if-m-eq8.false c.if-m-eq10.false c.if-m-lt12.true in
-    (f, λ l. omega arith, λ b r e. let g = (let it : (b : List ℕ) (r : RecordsAt c.args.part.now) → drop c.args.at b ≡ c.args.part.now → Going b c.args.part.now c.args.sentence c.args.sites.now c.args.n c.loop-lists.sites c.loop-lists.i c.loop-lists.k c.loop-lists.lists c.loop-lists.next r = λ b r e. c.loop-lists.invariant.2 b r e in it) b r e in lists-opened g u c.if-m-lt7.false c.if-m-eq8.false c.if-m-eq10.false c.if-m-lt12.true c.opened-lists.result c.opened-lists.ensures)
+    (f, λ l. omega arith, λ b r e. let g = going b r e in lists-opened g u c.if-m-lt7.false c.if-m-eq8.false c.if-m-eq10.false c.if-m-lt12.true c.opened-lists.result c.opened-lists.ensures)
 
 pub loop-lists-smaller-then-m-lt12 : goal.loop-lists-smaller-then-m-lt12
 loop-lists-smaller-then-m-lt12 t c =
-    let g = (let it : Going (body_with c.args.at c.args.part.now) c.args.part.now c.args.sentence c.args.sites.now c.args.n c.loop-lists.sites c.loop-lists.i c.loop-lists.k c.loop-lists.lists c.loop-lists.next c.requires.2.reading = (let it : (b : List ℕ) (r : RecordsAt c.args.part.now) → drop c.args.at b ≡ c.args.part.now → Going b c.args.part.now c.args.sentence c.args.sites.now c.args.n c.loop-lists.sites c.loop-lists.i c.loop-lists.k c.loop-lists.lists c.loop-lists.next r = λ b r e. c.loop-lists.invariant.2 b r e in it) (body_with c.args.at c.args.part.now) c.requires.2.reading (body_with_lem c.args.at c.args.part.now) in it) in
+    let going : (b : List ℕ) (r : RecordsAt c.args.part.now) → drop c.args.at b ≡ c.args.part.now → Going b c.args.part.now c.args.sentence c.args.sites.now c.args.n c.loop-lists.sites c.loop-lists.i c.loop-lists.k c.loop-lists.lists c.loop-lists.next r = λ b r e. c.loop-lists.invariant.2 b r e in
+    let the_going : Going (body_with c.args.at c.args.part.now) c.args.part.now c.args.sentence c.args.sites.now c.args.n c.loop-lists.sites c.loop-lists.i c.loop-lists.k c.loop-lists.lists c.loop-lists.next c.requires.2.reading = going (body_with c.args.at c.args.part.now) c.requires.2.reading (body_with_lem c.args.at c.args.part.now) in
+    let g = the_going in
     let u = c.if-lists-gt0.false in
     let f = inside-fits g u c.if-m-lt7.false c.if-m-eq8.false c.if-m-eq10.false c.if-m-lt12.true in
     less-on (length c.args.part.now) (omega (arith, c.requires.0)) c.loop-lists.i _ c.loop-lists.next (omega arith) f (stands g) (stands (lists-opened g u c.if-m-lt7.false c.if-m-eq8.false c.if-m-eq10.false c.if-m-lt12.true c.opened-lists.result c.opened-lists.ensures))
 
 pub overflow_add-i-then-next-eq0 : goal.overflow_add-i-then-next-eq0
 overflow_add-i-then-next-eq0 t c =
-    let g = (let it : Going (body_with c.args.at c.args.part.now) c.args.part.now c.args.sentence c.args.sites.now c.args.n c.loop-lists.sites c.loop-lists.i c.loop-lists.k c.loop-lists.lists c.loop-lists.next c.requires.2.reading = (let it : (b : List ℕ) (r : RecordsAt c.args.part.now) → drop c.args.at b ≡ c.args.part.now → Going b c.args.part.now c.args.sentence c.args.sites.now c.args.n c.loop-lists.sites c.loop-lists.i c.loop-lists.k c.loop-lists.lists c.loop-lists.next r = λ b r e. c.loop-lists.invariant.2 b r e in it) (body_with c.args.at c.args.part.now) c.requires.2.reading (body_with_lem c.args.at c.args.part.now) in it) in
+    let going : (b : List ℕ) (r : RecordsAt c.args.part.now) → drop c.args.at b ≡ c.args.part.now → Going b c.args.part.now c.args.sentence c.args.sites.now c.args.n c.loop-lists.sites c.loop-lists.i c.loop-lists.k c.loop-lists.lists c.loop-lists.next r = λ b r e. c.loop-lists.invariant.2 b r e in
+    let the_going : Going (body_with c.args.at c.args.part.now) c.args.part.now c.args.sentence c.args.sites.now c.args.n c.loop-lists.sites c.loop-lists.i c.loop-lists.k c.loop-lists.lists c.loop-lists.next c.requires.2.reading = going (body_with c.args.at c.args.part.now) c.requires.2.reading (body_with_lem c.args.at c.args.part.now) in
+    let g = the_going in
     omega (arith, going_within g, c.requires.0)
 
 pub shape_of-sites-then-next-eq0 : goal.shape_of-sites-then-next-eq0
 shape_of-sites-then-next-eq0 t c =
-    let g = (let it : Going (body_with c.args.at c.args.part.now) c.args.part.now c.args.sentence c.args.sites.now c.args.n c.loop-lists.sites c.loop-lists.i c.loop-lists.k c.loop-lists.lists c.loop-lists.next c.requires.2.reading = (let it : (b : List ℕ) (r : RecordsAt c.args.part.now) → drop c.args.at b ≡ c.args.part.now → Going b c.args.part.now c.args.sentence c.args.sites.now c.args.n c.loop-lists.sites c.loop-lists.i c.loop-lists.k c.loop-lists.lists c.loop-lists.next r = λ b r e. c.loop-lists.invariant.2 b r e in it) (body_with c.args.at c.args.part.now) c.requires.2.reading (body_with_lem c.args.at c.args.part.now) in it) in
+    let going : (b : List ℕ) (r : RecordsAt c.args.part.now) → drop c.args.at b ≡ c.args.part.now → Going b c.args.part.now c.args.sentence c.args.sites.now c.args.n c.loop-lists.sites c.loop-lists.i c.loop-lists.k c.loop-lists.lists c.loop-lists.next r = λ b r e. c.loop-lists.invariant.2 b r e in
+    let the_going : Going (body_with c.args.at c.args.part.now) c.args.part.now c.args.sentence c.args.sites.now c.args.n c.loop-lists.sites c.loop-lists.i c.loop-lists.k c.loop-lists.lists c.loop-lists.next c.requires.2.reading = going (body_with c.args.at c.args.part.now) c.requires.2.reading (body_with_lem c.args.at c.args.part.now) in
+    let g = the_going in
     going_length g
 
 pub returns-then-next-eq0 : goal.returns-then-next-eq0
 returns-then-next-eq0 t c =
-    let g = (let it : Going (body_with c.args.at c.args.part.now) c.args.part.now c.args.sentence c.args.sites.now c.args.n c.loop-lists.sites c.loop-lists.i c.loop-lists.k c.loop-lists.lists c.loop-lists.next c.requires.2.reading = (let it : (b : List ℕ) (r : RecordsAt c.args.part.now) → drop c.args.at b ≡ c.args.part.now → Going b c.args.part.now c.args.sentence c.args.sites.now c.args.n c.loop-lists.sites c.loop-lists.i c.loop-lists.k c.loop-lists.lists c.loop-lists.next r = λ b r e. c.loop-lists.invariant.2 b r e in it) (body_with c.args.at c.args.part.now) c.requires.2.reading (body_with_lem c.args.at c.args.part.now) in it) in
+    let going : (b : List ℕ) (r : RecordsAt c.args.part.now) → drop c.args.at b ≡ c.args.part.now → Going b c.args.part.now c.args.sentence c.args.sites.now c.args.n c.loop-lists.sites c.loop-lists.i c.loop-lists.k c.loop-lists.lists c.loop-lists.next r = λ b r e. c.loop-lists.invariant.2 b r e in
+    let the_going : Going (body_with c.args.at c.args.part.now) c.args.part.now c.args.sentence c.args.sites.now c.args.n c.loop-lists.sites c.loop-lists.i c.loop-lists.k c.loop-lists.lists c.loop-lists.next c.requires.2.reading = going (body_with c.args.at c.args.part.now) c.requires.2.reading (body_with_lem c.args.at c.args.part.now) in
+    let g = the_going in
     let u = c.if-lists-gt0.false in
     let m = c.if-m-lt12.false in
-    λ b r e. going_done ((let it : (b : List ℕ) (r : RecordsAt c.args.part.now) → drop c.args.at b ≡ c.args.part.now → Going b c.args.part.now c.args.sentence c.args.sites.now c.args.n c.loop-lists.sites c.loop-lists.i c.loop-lists.k c.loop-lists.lists c.loop-lists.next r = λ b r e. c.loop-lists.invariant.2 b r e in it) b r e) u m c.if-next-eq0.true refl refl
+    λ b r e. going_done (going b r e) u m c.if-next-eq0.true refl refl
 
 pub overflow_add-i-else-next-eq0 : goal.overflow_add-i-else-next-eq0
 overflow_add-i-else-next-eq0 t c =
-    let g = (let it : Going (body_with c.args.at c.args.part.now) c.args.part.now c.args.sentence c.args.sites.now c.args.n c.loop-lists.sites c.loop-lists.i c.loop-lists.k c.loop-lists.lists c.loop-lists.next c.requires.2.reading = (let it : (b : List ℕ) (r : RecordsAt c.args.part.now) → drop c.args.at b ≡ c.args.part.now → Going b c.args.part.now c.args.sentence c.args.sites.now c.args.n c.loop-lists.sites c.loop-lists.i c.loop-lists.k c.loop-lists.lists c.loop-lists.next r = λ b r e. c.loop-lists.invariant.2 b r e in it) (body_with c.args.at c.args.part.now) c.requires.2.reading (body_with_lem c.args.at c.args.part.now) in it) in
+    let going : (b : List ℕ) (r : RecordsAt c.args.part.now) → drop c.args.at b ≡ c.args.part.now → Going b c.args.part.now c.args.sentence c.args.sites.now c.args.n c.loop-lists.sites c.loop-lists.i c.loop-lists.k c.loop-lists.lists c.loop-lists.next r = λ b r e. c.loop-lists.invariant.2 b r e in
+    let the_going : Going (body_with c.args.at c.args.part.now) c.args.part.now c.args.sentence c.args.sites.now c.args.n c.loop-lists.sites c.loop-lists.i c.loop-lists.k c.loop-lists.lists c.loop-lists.next c.requires.2.reading = going (body_with c.args.at c.args.part.now) c.requires.2.reading (body_with_lem c.args.at c.args.part.now) in
+    let g = the_going in
     omega (arith, going_within g, c.requires.0)
 
 pub loop-lists-preserved : goal.loop-lists-preserved
 loop-lists-preserved t c =
-    let g = (let it : Going (body_with c.args.at c.args.part.now) c.args.part.now c.args.sentence c.args.sites.now c.args.n c.loop-lists.sites c.loop-lists.i c.loop-lists.k c.loop-lists.lists c.loop-lists.next c.requires.2.reading = (let it : (b : List ℕ) (r : RecordsAt c.args.part.now) → drop c.args.at b ≡ c.args.part.now → Going b c.args.part.now c.args.sentence c.args.sites.now c.args.n c.loop-lists.sites c.loop-lists.i c.loop-lists.k c.loop-lists.lists c.loop-lists.next r = λ b r e. c.loop-lists.invariant.2 b r e in it) (body_with c.args.at c.args.part.now) c.requires.2.reading (body_with_lem c.args.at c.args.part.now) in it) in
+    let going : (b : List ℕ) (r : RecordsAt c.args.part.now) → drop c.args.at b ≡ c.args.part.now → Going b c.args.part.now c.args.sentence c.args.sites.now c.args.n c.loop-lists.sites c.loop-lists.i c.loop-lists.k c.loop-lists.lists c.loop-lists.next r = λ b r e. c.loop-lists.invariant.2 b r e in
+    let the_going : Going (body_with c.args.at c.args.part.now) c.args.part.now c.args.sentence c.args.sites.now c.args.n c.loop-lists.sites c.loop-lists.i c.loop-lists.k c.loop-lists.lists c.loop-lists.next c.requires.2.reading = going (body_with c.args.at c.args.part.now) c.requires.2.reading (body_with_lem c.args.at c.args.part.now) in
+    let g = the_going in
     let u = c.if-lists-gt0.false in
     let m = c.if-m-lt12.false in
     let n = c.if-next-eq0.false in
     let v = c.after_conditions-next in
-    (omega (arith, going_within (resumed g u m n v.result v.ensures)), λ l. omega (arith, l, u), λ b r e. resumed ((let it : (b : List ℕ) (r : RecordsAt c.args.part.now) → drop c.args.at b ≡ c.args.part.now → Going b c.args.part.now c.args.sentence c.args.sites.now c.args.n c.loop-lists.sites c.loop-lists.i c.loop-lists.k c.loop-lists.lists c.loop-lists.next r = λ b r e. c.loop-lists.invariant.2 b r e in it) b r e) u m n v.result v.ensures)
+    (omega (arith, going_within (resumed g u m n v.result v.ensures)), λ l. omega (arith, l, u), λ b r e. resumed (going b r e) u m n v.result v.ensures)
 
 pub loop-lists-smaller : goal.loop-lists-smaller
 loop-lists-smaller t c =
-    let g = (let it : Going (body_with c.args.at c.args.part.now) c.args.part.now c.args.sentence c.args.sites.now c.args.n c.loop-lists.sites c.loop-lists.i c.loop-lists.k c.loop-lists.lists c.loop-lists.next c.requires.2.reading = (let it : (b : List ℕ) (r : RecordsAt c.args.part.now) → drop c.args.at b ≡ c.args.part.now → Going b c.args.part.now c.args.sentence c.args.sites.now c.args.n c.loop-lists.sites c.loop-lists.i c.loop-lists.k c.loop-lists.lists c.loop-lists.next r = λ b r e. c.loop-lists.invariant.2 b r e in it) (body_with c.args.at c.args.part.now) c.requires.2.reading (body_with_lem c.args.at c.args.part.now) in it) in
+    let going : (b : List ℕ) (r : RecordsAt c.args.part.now) → drop c.args.at b ≡ c.args.part.now → Going b c.args.part.now c.args.sentence c.args.sites.now c.args.n c.loop-lists.sites c.loop-lists.i c.loop-lists.k c.loop-lists.lists c.loop-lists.next r = λ b r e. c.loop-lists.invariant.2 b r e in
+    let the_going : Going (body_with c.args.at c.args.part.now) c.args.part.now c.args.sentence c.args.sites.now c.args.n c.loop-lists.sites c.loop-lists.i c.loop-lists.k c.loop-lists.lists c.loop-lists.next c.requires.2.reading = going (body_with c.args.at c.args.part.now) c.requires.2.reading (body_with_lem c.args.at c.args.part.now) in
+    let g = the_going in
     let u = c.if-lists-gt0.false in
     let m = c.if-m-lt12.false in
     let n = c.if-next-eq0.false in

@@ -1,5 +1,4 @@
 -- `index::dispatch::residual_dispatches_dynamically` meets its contract. Assumes nothing.
-use Prim.Native.Nat.{◌-◌, ◌≤◌}
 use mathlib.Core.Path.{◌≡◌}
 use mathlib.Core.Bool.{Bool}
 use mathlib.Core.List.{List}
@@ -13,8 +12,5 @@ use Rattle.index.proofs.dispatch.residual_dispatches_dynamically.Given as goal
 abbrev pub test : Held → Bool
 test x = activates_acarried_call x.site.callee
 
-abbrev pub invariant-loop-i : goal.invariant-loop-i
-invariant-loop-i l = (l.i ≤ l.n) × ((held : List Held) → SitesAt l.b held l.work l.calls → length held ≡ l.n → any test held ≡ any test (drop l.i held))
-
-abbrev pub decreases-loop-i : goal.decreases-loop-i
-decreases-loop-i l = l.n - l.i
+abbrev pub invariant-loop-e : goal.invariant-loop-e
+invariant-loop-e l = ((held : List Held) → SitesAt l.b held l.work l.calls → length held ≡ l.n → any test held ≡ any test (drop l.e-index held))

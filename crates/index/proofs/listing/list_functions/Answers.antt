@@ -12,14 +12,15 @@ loop-p-init c = (c.requires.1, λ h. listing-first c.args.b.now c.args.from c.ar
 pub bounds-b-p : goal.bounds-b-p
 bounds-b-p c = c.loop-p-test.true
 
-pub entry_of-requires : goal.entry_of-requires
-entry_of-requires c = let t = c.loop-p-test.true in (omega (arith, t, c.requires.0), (listing-small ((c.loop-p.invariant.1 c.requires.3)) t c.requires.0).0)
+pub packed-requires : goal.packed-requires
+packed-requires c = let t = c.loop-p-test.true in (omega (arith, t, c.requires.0), (listing-small ((c.loop-p.invariant.1 c.requires.3)) t c.requires.0).0)
 
 pub offset_bounds-work-f : goal.offset_bounds-work-f
 offset_bounds-work-f c = omega (arith, (listing-small ((c.loop-p.invariant.1 c.requires.3)) c.loop-p-test.true c.requires.0).1)
 
 pub bounds-work-f : goal.bounds-work-f
-bounds-work-f c = (let it : c.loop-p.f < length c.loop-p.work = omega (arith, function-room ((c.loop-p.invariant.1 c.requires.3)) c.loop-p-test.true c.if-m-eq18.true (c.requires.2 c.requires.3).0, (c.requires.2 c.requires.3).1, ((c.loop-p.invariant.1 c.requires.3)).size) in it)
+bounds-work-f c =
+    omega (arith, function-room ((c.loop-p.invariant.1 c.requires.3)) c.loop-p-test.true c.if-m-eq18.true (c.requires.2 c.requires.3).0, (c.requires.2 c.requires.3).1, ((c.loop-p.invariant.1 c.requires.3)).size)
 
 pub overflow_add-f : goal.overflow_add-f
 overflow_add-f c = omega (arith, (listing-small ((c.loop-p.invariant.1 c.requires.3)) c.loop-p-test.true c.requires.0).1)
@@ -37,33 +38,44 @@ pub sentences_start-p-requires : goal.sentences_start-p-requires
 sentences_start-p-requires c = place-part c.args.b.now c.loop-p.p ((c.loop-p.invariant.1 c.requires.3)).place c.loop-p-test.true c.if-m-eq18.true
 
 pub overflow_add-p : goal.overflow_add-p
-overflow_add-p c = omega (arith, (let it : (0 < c.sentences_start-p.result) × (c.loop-p.p + c.sentences_start-p.result ≤ length c.args.b.now) = place-fits c.args.b.now c.loop-p.p ((c.loop-p.invariant.1 c.requires.3)).place c.loop-p-test.true c.if-m-eq18.true c.sentences_start-p.result (c.sentences_start-p.ensures (place-part c.args.b.now c.loop-p.p ((c.loop-p.invariant.1 c.requires.3)).place c.loop-p-test.true c.if-m-eq18.true)) in it), c.requires.0)
+overflow_add-p c =
+    let both : (0 < c.sentences_start-p.result) × (c.loop-p.p + c.sentences_start-p.result ≤ length c.args.b.now) = place-fits c.args.b.now c.loop-p.p ((c.loop-p.invariant.1 c.requires.3)).place c.loop-p-test.true c.if-m-eq18.true c.sentences_start-p.result (c.sentences_start-p.ensures (place-part c.args.b.now c.loop-p.p ((c.loop-p.invariant.1 c.requires.3)).place c.loop-p-test.true c.if-m-eq18.true)) in
+    omega (arith, both, c.requires.0)
 
 pub loop-p-smaller-then-m-eq18 : goal.loop-p-smaller-then-m-eq18
-loop-p-smaller-then-m-eq18 c = omega (arith, (let it : (0 < c.sentences_start-p.result) × (c.loop-p.p + c.sentences_start-p.result ≤ length c.args.b.now) = place-fits c.args.b.now c.loop-p.p ((c.loop-p.invariant.1 c.requires.3)).place c.loop-p-test.true c.if-m-eq18.true c.sentences_start-p.result (c.sentences_start-p.ensures (place-part c.args.b.now c.loop-p.p ((c.loop-p.invariant.1 c.requires.3)).place c.loop-p-test.true c.if-m-eq18.true)) in it))
+loop-p-smaller-then-m-eq18 c =
+    let both : (0 < c.sentences_start-p.result) × (c.loop-p.p + c.sentences_start-p.result ≤ length c.args.b.now) = place-fits c.args.b.now c.loop-p.p ((c.loop-p.invariant.1 c.requires.3)).place c.loop-p-test.true c.if-m-eq18.true c.sentences_start-p.result (c.sentences_start-p.ensures (place-part c.args.b.now c.loop-p.p ((c.loop-p.invariant.1 c.requires.3)).place c.loop-p-test.true c.if-m-eq18.true)) in
+    omega (arith, both)
 
 pub loop-p-preserved-then-m-eq18 : goal.loop-p-preserved-then-m-eq18
 loop-p-preserved-then-m-eq18 c =
+    let both : (0 < c.sentences_start-p.result) × (c.loop-p.p + c.sentences_start-p.result ≤ length c.args.b.now) = place-fits c.args.b.now c.loop-p.p ((c.loop-p.invariant.1 c.requires.3)).place c.loop-p-test.true c.if-m-eq18.true c.sentences_start-p.result (c.sentences_start-p.ensures (place-part c.args.b.now c.loop-p.p ((c.loop-p.invariant.1 c.requires.3)).place c.loop-p-test.true c.if-m-eq18.true)) in
+    let below : c.loop-p.f < length c.loop-p.work = omega (arith, function-room ((c.loop-p.invariant.1 c.requires.3)) c.loop-p-test.true c.if-m-eq18.true (c.requires.2 c.requires.3).0, (c.requires.2 c.requires.3).1, ((c.loop-p.invariant.1 c.requires.3)).size) in
     let t = c.loop-p-test.true in
     let m = c.if-m-eq18.true in (
-      ((let it : (0 < c.sentences_start-p.result) × (c.loop-p.p + c.sentences_start-p.result ≤ length c.args.b.now) = place-fits c.args.b.now c.loop-p.p ((c.loop-p.invariant.1 c.requires.3)).place c.loop-p-test.true c.if-m-eq18.true c.sentences_start-p.result (c.sentences_start-p.ensures (place-part c.args.b.now c.loop-p.p ((c.loop-p.invariant.1 c.requires.3)).place c.loop-p-test.true c.if-m-eq18.true)) in it)).1,
+      both.1,
       λ h.
           let w = c.loop-p.invariant.1 h in
-          let e = c.entry_of in
-          listing-function w t m e.result e.ensures.0 e.ensures.1 c.sentences_start-p.result (c.sentences_start-p.ensures (place-part c.args.b.now c.loop-p.p w.place t m)) ((let it : c.loop-p.f < length c.loop-p.work = omega (arith, function-room ((c.loop-p.invariant.1 c.requires.3)) c.loop-p-test.true c.if-m-eq18.true (c.requires.2 c.requires.3).0, (c.requires.2 c.requires.3).1, ((c.loop-p.invariant.1 c.requires.3)).size) in it)) (c.requires.2 h).0,
+          let e = c.packed in
+          listing-function w t m e.result e.ensures.0 e.ensures.1 c.sentences_start-p.result (c.sentences_start-p.ensures (place-part c.args.b.now c.loop-p.p w.place t m)) below (c.requires.2 h).0,
     )
 
 pub overflow_add-k : goal.overflow_add-k
-overflow_add-k c = omega (arith, (let it : c.args.lines + c.loop-p.s < length c.loop-p.work = omega (arith, sentence-below ((c.loop-p.invariant.1 c.requires.3)) c.loop-p-test.true c.if-m-eq10.true, (c.requires.2 c.requires.3).1, ((c.loop-p.invariant.1 c.requires.3)).size) in it), ((c.loop-p.invariant.1 c.requires.3)).size)
+overflow_add-k c =
+    let below : c.args.lines + c.loop-p.s < length c.loop-p.work = omega (arith, sentence-below ((c.loop-p.invariant.1 c.requires.3)) c.loop-p-test.true c.if-m-eq10.true, (c.requires.2 c.requires.3).1, ((c.loop-p.invariant.1 c.requires.3)).size) in
+    omega (arith, below, ((c.loop-p.invariant.1 c.requires.3)).size)
 
 pub overflow_cast-work : goal.overflow_cast-work
 overflow_cast-work c = omega (arith, c.loop-p-test.true, c.requires.0)
 
 pub offset_bounds-work-k : goal.offset_bounds-work-k
-offset_bounds-work-k c = omega (arith, (let it : c.args.lines + c.loop-p.s < length c.loop-p.work = omega (arith, sentence-below ((c.loop-p.invariant.1 c.requires.3)) c.loop-p-test.true c.if-m-eq10.true, (c.requires.2 c.requires.3).1, ((c.loop-p.invariant.1 c.requires.3)).size) in it), ((c.loop-p.invariant.1 c.requires.3)).size)
+offset_bounds-work-k c =
+    let below : c.args.lines + c.loop-p.s < length c.loop-p.work = omega (arith, sentence-below ((c.loop-p.invariant.1 c.requires.3)) c.loop-p-test.true c.if-m-eq10.true, (c.requires.2 c.requires.3).1, ((c.loop-p.invariant.1 c.requires.3)).size) in
+    omega (arith, below, ((c.loop-p.invariant.1 c.requires.3)).size)
 
 pub bounds-work-k : goal.bounds-work-k
-bounds-work-k c = (let it : c.args.lines + c.loop-p.s < length c.loop-p.work = omega (arith, sentence-below ((c.loop-p.invariant.1 c.requires.3)) c.loop-p-test.true c.if-m-eq10.true, (c.requires.2 c.requires.3).1, ((c.loop-p.invariant.1 c.requires.3)).size) in it)
+bounds-work-k c =
+    omega (arith, sentence-below ((c.loop-p.invariant.1 c.requires.3)) c.loop-p-test.true c.if-m-eq10.true, (c.requires.2 c.requires.3).1, ((c.loop-p.invariant.1 c.requires.3)).size)
 
 pub overflow_add-s : goal.overflow_add-s
 overflow_add-s c = omega (arith, (listing-small ((c.loop-p.invariant.1 c.requires.3)) c.loop-p-test.true c.requires.0).0)
@@ -81,37 +93,43 @@ pub sentence_len-p-requires : goal.sentence_len-p-requires
 sentence_len-p-requires c = sentence-there c.args.b.now c.loop-p.p (place-sentence c.args.b.now c.loop-p.p ((c.loop-p.invariant.1 c.requires.3)).place c.loop-p-test.true c.if-m-eq10.true).here
 
 pub overflow_add-p-then-m-eq10 : goal.overflow_add-p-then-m-eq10
-overflow_add-p-then-m-eq10 c = omega (
-  arith,
-  (let it : (c.loop-p.p < c.loop-p.p + c.sentence_len-p.result) × (c.loop-p.p + c.sentence_len-p.result ≤ length c.args.b.now) = let b = c.args.b.now in
-      let p = c.loop-p.p in
-      let x = (place-sentence b p ((c.loop-p.invariant.1 c.requires.3)).place c.loop-p-test.true c.if-m-eq10.true).here in
-      sentence-fits ((c.loop-p.invariant.1 c.requires.3)) c.loop-p-test.true c.if-m-eq10.true c.sentence_len-p.result (c.sentence_len-p.ensures (sentence-there b p x)) in it),
-  c.requires.0,
-)
+overflow_add-p-then-m-eq10 c =
+    let both : (c.loop-p.p < c.loop-p.p + c.sentence_len-p.result) × (c.loop-p.p + c.sentence_len-p.result ≤ length c.args.b.now) = let b = c.args.b.now in
+    let p = c.loop-p.p in
+    let x = (place-sentence b p ((c.loop-p.invariant.1 c.requires.3)).place c.loop-p-test.true c.if-m-eq10.true).here in
+    sentence-fits ((c.loop-p.invariant.1 c.requires.3)) c.loop-p-test.true c.if-m-eq10.true c.sentence_len-p.result (c.sentence_len-p.ensures (sentence-there b p x)) in
+    omega (
+      arith,
+      both,
+      c.requires.0,
+    )
 
 pub loop-p-smaller-then-m-eq10 : goal.loop-p-smaller-then-m-eq10
-loop-p-smaller-then-m-eq10 c = omega (
-  arith,
-  (let it : (c.loop-p.p < c.loop-p.p + c.sentence_len-p.result) × (c.loop-p.p + c.sentence_len-p.result ≤ length c.args.b.now) = let b = c.args.b.now in
-      let p = c.loop-p.p in
-      let x = (place-sentence b p ((c.loop-p.invariant.1 c.requires.3)).place c.loop-p-test.true c.if-m-eq10.true).here in
-      sentence-fits ((c.loop-p.invariant.1 c.requires.3)) c.loop-p-test.true c.if-m-eq10.true c.sentence_len-p.result (c.sentence_len-p.ensures (sentence-there b p x)) in it),
-)
+loop-p-smaller-then-m-eq10 c =
+    let both : (c.loop-p.p < c.loop-p.p + c.sentence_len-p.result) × (c.loop-p.p + c.sentence_len-p.result ≤ length c.args.b.now) = let b = c.args.b.now in
+    let p = c.loop-p.p in
+    let x = (place-sentence b p ((c.loop-p.invariant.1 c.requires.3)).place c.loop-p-test.true c.if-m-eq10.true).here in
+    sentence-fits ((c.loop-p.invariant.1 c.requires.3)) c.loop-p-test.true c.if-m-eq10.true c.sentence_len-p.result (c.sentence_len-p.ensures (sentence-there b p x)) in
+    omega (
+      arith,
+      both,
+    )
 
 pub loop-p-preserved-then-m-eq10 : goal.loop-p-preserved-then-m-eq10
 loop-p-preserved-then-m-eq10 c =
+    let both : (c.loop-p.p < c.loop-p.p + c.sentence_len-p.result) × (c.loop-p.p + c.sentence_len-p.result ≤ length c.args.b.now) = let b = c.args.b.now in
+    let p = c.loop-p.p in
+    let x = (place-sentence b p ((c.loop-p.invariant.1 c.requires.3)).place c.loop-p-test.true c.if-m-eq10.true).here in
+    sentence-fits ((c.loop-p.invariant.1 c.requires.3)) c.loop-p-test.true c.if-m-eq10.true c.sentence_len-p.result (c.sentence_len-p.ensures (sentence-there b p x)) in
+    let below : c.args.lines + c.loop-p.s < length c.loop-p.work = omega (arith, sentence-below ((c.loop-p.invariant.1 c.requires.3)) c.loop-p-test.true c.if-m-eq10.true, (c.requires.2 c.requires.3).1, ((c.loop-p.invariant.1 c.requires.3)).size) in
     let t = c.loop-p-test.true in
     let m = c.if-m-eq10.true in
     let b = c.args.b.now in
     let p = c.loop-p.p in (
-      ((let it : (c.loop-p.p < c.loop-p.p + c.sentence_len-p.result) × (c.loop-p.p + c.sentence_len-p.result ≤ length c.args.b.now) = let b = c.args.b.now in
-          let p = c.loop-p.p in
-          let x = (place-sentence b p ((c.loop-p.invariant.1 c.requires.3)).place c.loop-p-test.true c.if-m-eq10.true).here in
-          sentence-fits ((c.loop-p.invariant.1 c.requires.3)) c.loop-p-test.true c.if-m-eq10.true c.sentence_len-p.result (c.sentence_len-p.ensures (sentence-there b p x)) in it)).1,
+      both.1,
       λ h.
           let w = c.loop-p.invariant.1 h in
-          listing-sentence w t m (omega (arith, t, c.requires.0)) c.sentence_len-p.result (c.sentence_len-p.ensures (sentence-there b p (place-sentence b p w.place t m).here)) ((let it : c.args.lines + c.loop-p.s < length c.loop-p.work = omega (arith, sentence-below ((c.loop-p.invariant.1 c.requires.3)) c.loop-p-test.true c.if-m-eq10.true, (c.requires.2 c.requires.3).1, ((c.loop-p.invariant.1 c.requires.3)).size) in it)) (c.requires.2 h).0,
+          listing-sentence w t m (omega (arith, t, c.requires.0)) c.sentence_len-p.result (c.sentence_len-p.ensures (sentence-there b p (place-sentence b p w.place t m).here)) below (c.requires.2 h).0,
     )
 
 pub overflow_add-p-else-m-eq10 : goal.overflow_add-p-else-m-eq10

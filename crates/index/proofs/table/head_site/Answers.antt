@@ -1,19 +1,13 @@
 -- `index::table::head_site` meets its contract. Assumes nothing.
-use Prim.Native.Nat.{◌+◌, ◌<◌}
-use native.Mathlib.Omega.{arith}
-use mathlib.Core.Path.{sym, ap}
-use mathlib.Core.Bool.{Bool}
-use lib.ListN.{get_or}
-use Rattle.index.specs.Links.{list_head}
+use mathlib.Core.Path.{◌∙◌, sym, subst}
+use Prim.Native.Nat.{ℕ, ◌<◌}
+use Rattle.index.proofs.Heads.{first_head, head_below}
 use Rattle.index.proofs.table.head_site.Goals as goal
 
-pub overflow_cast-result-else-plain : goal.overflow_cast-result-else-plain
-overflow_cast-result-else-plain c = omega (arith, (let it : (get_or c.args.work.now (c.args.heads + c.args.f) 0) < 4294967296 = omega (arith, c.shared_slice_known-1.given (c.args.heads + c.args.f)) in it))
-
-pub returns-then-plain : goal.returns-then-plain
-unfolding list_head
-returns-then-plain c = (ap (λ (t : Bool). list_head t ((get_or c.args.work.now (c.args.heads + c.args.f) 0))) (sym c.if-plain.true), omega arith)
-
-pub returns-else-plain : goal.returns-else-plain
-unfolding list_head
-returns-else-plain c = (ap (λ (t : Bool). list_head t ((get_or c.args.work.now (c.args.heads + c.args.f) 0))) (sym c.if-plain.false), omega (arith, (let it : (get_or c.args.work.now (c.args.heads + c.args.f) 0) < 4294967296 = omega (arith, c.shared_slice_known-1.given (c.args.heads + c.args.f)) in it)))
+pub returns : goal.returns
+returns c =
+    let h = c.from.ensures in
+    let k = c.args.kind in (
+      c.first.ensures ∙ first_head k c.from.result _ h.0 h.1,
+      subst (λ (n : ℕ). n < 524288) (sym c.first.ensures) (head_below k c.from.result h.2 h.3),
+    )

@@ -111,7 +111,7 @@ module _ {b old new : List ℕ} {p : Plan} {w : Program} (l : Chains b w old p) 
   }
 
   -- The functions are filed as they were.
-  pub filed_still : SomeFiled b new p.functions (notes p) (length new - notes p - p.functions)
+  pub filed_still : SomeFiled b new (record { functions = p.functions; at = notes p; buckets = length new - notes p - p.functions })
   filed_still = record {
     functions = w.functions;
     tabled = tabled_still;

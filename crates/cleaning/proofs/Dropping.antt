@@ -1,8 +1,8 @@
 -- Writing a round into a sentence's entry: what it says of that sentence, and what it leaves.
-use Prim.Native.Nat.{ℕ, suc, ◌+◌, ◌-◌, ◌*◌, ◌/◌, ◌%◌, ◌<◌, ◌≤◌}
+use Prim.Native.Nat.{ℕ, suc, ◌+◌, ◌-◌, ◌/◌, ◌%◌, ◌<◌, ◌≤◌}
 use native.Mathlib.Omega.{arith}
 use mathlib.Core.Path.{◌≡◌, refl, sym, ap, ap₂, subst, ◌∙◌}
-use mathlib.Core.Bool.{Bool, true, false, ◌&&◌, ◌||◌, cond, or-true, or-false, and-false}
+use mathlib.Core.Bool.{Bool, true, false, ◌&&◌, ◌||◌, cond, or-false, and-false}
 use mathlib.Core.List.{List}
 use lib.Dec.{eqb, ltb}
 use lib.ListN.{length, get_or, set}
@@ -10,6 +10,7 @@ use lib.Seq.{get_or-set_same}
 use borrow.Author.Tests.{eq-eqb, ne_eqb, ltb-true, ltb-false}
 use Rattle.program.specs.Syntax.{Program}
 use Rattle.program.proofs.Own.{own-counted}
+use Rattle.restrictions.specs.Entries.{entry_offset, entry_sentence}
 use Rattle.index.specs.declared.Plan.{Plan}
 use Rattle.index.specs.Layout.{lines, witnesses, marks}
 use Rattle.told.specs.Numbered.{sentences_before}
@@ -38,33 +39,26 @@ module _ {b : List ℕ} {w : Program} {m : List ℕ} {p : Plan} (d : Indexed b w
 
 -- ---- one sentence
 
-module _ (p : Plan) (m : List ℕ) (s r : ℕ) (before : Bool) where
-  pub dropped-one : s < p.sentences → marks p ≤ length m → r < 4096 → fell_of p m s ≡ 0 → get_or m (witnesses p + s) 0 ≡ p.sites + 1
-      → SentenceDropped m (set m (lines p + s) (get_or m (lines p + s) 0 % 32768 + 32768 * r)) p s r before true
-  dropped-one l fits few e d =
+module _ (p : Plan) (m : List ℕ) (s r : ℕ) where
+  pub dropped-one : (v : ℕ) → entry_offset v ≡ get_or m (lines p + s) 0 % 32768 → entry_sentence v ≡ r → s < p.sentences → marks p ≤ length m → fell_of p m s ≡ 0 → get_or m (witnesses p + s) 0 ≡ p.sites + 1
+      → SentenceDropped m (set m (lines p + s) v) p s r true
+  dropped-one v place number l fits e d =
       let k : ℕ = lines p + s in
-      let v : ℕ = get_or m k 0 % 32768 + 32768 * r in
       let g : get_or (set m k v) k 0 ≡ v = get_or-set_same m k v 0 (omega (arith, l, fits)) in
       let falls : falls_now m p s ≡ true = ap₂ (λ (t u : Bool). t && u) (eq-eqb (fell_of p m s) 0 e) (eq-eqb (get_or m (witnesses p + s) 0) (suc p.sites) (omega (arith, d))) in
       record {
-        fell = fell-is p (set m k v) s l ∙ ap (λ (n : ℕ). n / 32768 % 4096) g ∙ number (get_or m k 0) ∙ sym (ap (λ (t : Bool). cond t r (fell_of p m s)) falls);
-        place = ap (λ (n : ℕ). n % 32768) g ∙ rest (get_or m k 0);
+        fell = fell-is p (set m k v) s l ∙ ap (λ (n : ℕ). n / 32768 % 4096) g ∙ number ∙ sym (ap (λ (t : Bool). cond t r (fell_of p m s)) falls);
+        place = ap (λ (n : ℕ). n % 32768) g ∙ place;
         others = one_written m k v;
-        answer = sym (ap (λ (t : Bool). before || t) falls ∙ or-true before);
+        answer = sym falls;
       }
-    where
-      number : (n : ℕ) → (n % 32768 + 32768 * r) / 32768 % 4096 ≡ r
-      number n = omega (arith, few)
 
-      rest : (n : ℕ) → (n % 32768 + 32768 * r) % 32768 ≡ n % 32768
-      rest n = omega arith
-
-  pub dropped-none : falls_now m p s ≡ false → SentenceDropped m m p s r before before
+  pub dropped-none : falls_now m p s ≡ false → SentenceDropped m m p s r false
   dropped-none e = record {
     fell = sym (ap (λ (t : Bool). cond t r (fell_of p m s)) e);
     place = refl;
     others = none_written m (lines p + s);
-    answer = sym (or-false before) ∙ sym (ap (λ (t : Bool). before || t) e);
+    answer = sym e;
   }
 
   pub falls_not : (fell_of p m s ≡ 0 → ⊥) → falls_now m p s ≡ false
@@ -75,8 +69,8 @@ module _ (p : Plan) (m : List ℕ) (s r : ℕ) (before : Bool) where
 
 -- ---- sentences one after another
 
-module _ (p : Plan) (first r : ℕ) (before : Bool) where
-  pub dropped-start : (m : List ℕ) → SentencesDropped m m p first first r before before
+module _ (p : Plan) (first r : ℕ) where
+  pub dropped-start : (m : List ℕ) → SentencesDropped m m p first first r false
   unfolding some_number
   dropped-start m =
       let z : 0 ≡ first - first = omega arith in
@@ -84,10 +78,10 @@ module _ (p : Plan) (first r : ℕ) (before : Bool) where
         fell = λ s a b. absurd (omega (arith, a, b));
         place = λ s a b. absurd (omega (arith, a, b));
         others = record { length = refl; before = λ k l. refl; after = λ k l. refl };
-        answer = sym (or-false before) ∙ ap (λ (n : ℕ). before || some_number (falls_now m p) first n) z;
+        answer = ap (λ (n : ℕ). some_number (falls_now m p) first n) z;
       }
 
-  module _ (old one two : List ℕ) (s : ℕ) (d e : Bool) (from : first ≤ s) (within : s < p.sentences) (h : SentencesDropped old one p first s r before d) (g : SentenceDropped one two p s r d e) where
+  module _ (old one two : List ℕ) (s : ℕ) (d e : Bool) (from : first ≤ s) (within : s < p.sentences) (h : SentencesDropped old one p first s r d) (g : SentenceDropped one two p s r e) where
     entry_at : get_or one (lines p + s) 0 ≡ get_or old (lines p + s) 0
     entry_at = h.others.after (lines p + s) (λ z. omega (arith, z))
 
@@ -101,7 +95,7 @@ module _ (p : Plan) (first r : ℕ) (before : Bool) where
     kept_entry : (t : ℕ) → t < s → get_or two (lines p + t) 0 ≡ get_or one (lines p + t) 0
     kept_entry t l = g.others.others (lines p + t) (λ z. omega (arith, z, l))
 
-    pub dropped-next : SentencesDropped old two p first (s + 1) r before e
+    pub dropped-next : SentencesDropped old two p first (s + 1) r (d || e)
     unfolding some_number
     dropped-next =
         let z : (s - first) + 1 ≡ (s + 1) - first = omega (arith, from) in
@@ -114,19 +108,12 @@ module _ (p : Plan) (first r : ℕ) (before : Bool) where
             before = λ k l. g.others.others k (λ q. omega (arith, q, l, from)) ∙ h.others.before k l;
             after = λ k l. g.others.others k (λ q. l (omega (arith, q))) ∙ h.others.after k (λ q. l (omega (arith, q)));
           };
-          answer = g.answer
-              ∙ ap₂ (λ (t u : Bool). t || u) h.answer falls_at
-              ∙ grouped before (some_number (falls_now old p) first (s - first)) (falls_now old p s)
-              ∙ ap (λ (k : ℕ). before || (some_number (falls_now old p) first (s - first) || (falls_now old p k || false))) (sym y)
-              ∙ ap (λ (t : Bool). before || t) (sym (some-append (falls_now old p) first (s - first) 1))
-              ∙ ap (λ (n : ℕ). before || some_number (falls_now old p) first n) z;
+          answer = ap₂ (λ (t u : Bool). t || u) h.answer (g.answer ∙ falls_at ∙ sym (or-false (falls_now old p s)))
+              ∙ ap (λ (k : ℕ). some_number (falls_now old p) first (s - first) || (falls_now old p k || false)) (sym y)
+              ∙ sym (some-append (falls_now old p) first (s - first) 1)
+              ∙ ap (λ (n : ℕ). some_number (falls_now old p) first n) z;
         }
       where
-        grouped : (t u v : Bool) → ((t || u) || v) ≡ (t || (u || (v || false)))
-        grouped true u v = refl
-        grouped false true v = refl
-        grouped false false v = sym (or-false v)
-
         fell_by : (t : ℕ) → first ≤ t → t < s + 1 → (u : Bool) → ltb t s ≡ u → fell_of p two t ≡ cond (falls_now old p t) r (fell_of p old t)
         fell_by t a b true q =
             let l : t < s = ltb-true t s q in

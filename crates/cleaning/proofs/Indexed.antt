@@ -1,13 +1,15 @@
 -- The entries of work: what they say of sites and sentences, and what writing a round or a witness leaves.
 use Prim.Native.Nat.{ℕ, zero, suc, ◌+◌, ◌/◌, ◌%◌, ◌<◌, ◌≤◌}
 use native.Mathlib.Omega.{arith}
-use mathlib.Core.Path.{◌≡◌, refl, sym, ap, subst, fun_ext}
-use mathlib.Core.Bool.{Bool, true, false, ◌&&◌, cond}
+use mathlib.Core.Path.{◌≡◌, refl, sym, ap, subst, fun_ext, ◌∙◌}
+use mathlib.Core.Bool.{Bool, true, false, ◌&&◌, cond, not, true≢false}
 use mathlib.Core.List.{List, [], ◌∷◌, ◌++◌}
 use mathlib.Core.Option.{some}
-use borrow.Author.Tests.{ltb-true, lt-ltb}
-use lib.Dec.{ltb}
+use borrow.Author.Tests.{ltb-true, lt-ltb, eqb-true, eq-eqb}
+use lib.Dec.{eqb, ltb}
 use lib.ListN.{length, get_or, get_elem?, drop}
+use Rattle.std.specs.Prelude.{Option, None, Some, is_some}
+use Rattle.std.specs.Option.{option_eq, unwrap_or}
 use Rattle.program.specs.Syntax.{Name, Terms, Function, Program}
 use Rattle.program.specs.Sentences.{Sentence, own_sentences}
 use Rattle.image.specs.Parts.{SentenceAt}
@@ -22,7 +24,7 @@ use Rattle.told.specs.Calls.{is_listed}
 use Rattle.index.specs.Links.{list_head, entry_next, entry_class, is_repeat}
 use Rattle.index.proofs.First.{element_below}
 use Rattle.told.specs.Asked.{restricts, is_met, meets}
-use Rattle.cleaning.specs.Indexed.{Indexed, fell_of, OnlyRounds}
+use Rattle.cleaning.specs.Indexed.{Indexed, fell_of, FellIn, OnlyRounds}
 use Rattle.cleaning.specs.Walks.{Walkable, NoneMet, WitnessOf}
 
 -- ---- the number of a site's sentence
@@ -55,6 +57,33 @@ indexed-walkable {b} {w} {m} {p} d kind f x e = record {
 pub fell-is : (p : Plan) (m : List ℕ) (s : ℕ) → s < p.sentences → fell_of p m s ≡ get_or m (lines p + s) 0 / 32768 % 4096
 unfolding fell_of
 fell-is p m s h = ap (λ (t : Bool). cond t (get_or m (lines p + s) 0 / 32768 % 4096) 0) (lt-ltb s p.sentences h)
+
+-- Whether it fell at all, from the answer.
+pub never-fell : (n : ℕ) (o : Option ℕ) → FellIn n o → is_some o ≡ false → n ≡ 0
+never-fell n None e h = e
+never-fell n (Some r) e h = absurd (true≢false h)
+
+pub fell-once : (n : ℕ) (o : Option ℕ) → FellIn n o → is_some o ≡ true → n ≡ 0 → ⊥
+fell-once n None e h = absurd (true≢false (sym h))
+fell-once n (Some r) e h = λ z. omega (arith, z, e.0, e.1)
+
+-- The number back, 0 for none.
+pub fell-number : (n : ℕ) (o : Option ℕ) → FellIn n o → unwrap_or o 0 ≡ n
+fell-number n None e = sym e
+fell-number n (Some r) e = sym e.0
+
+-- Whether it fell in the round r.
+pub fell-other : (n r : ℕ) (o : Option ℕ) → FellIn n o → 0 < r → true ≡ not (option_eq eqb o (Some r)) → n ≡ r → ⊥
+fell-other n r None e l h = λ z. omega (arith, e, z, l)
+fell-other n r (Some k) e l h = λ z. true≢false (h ∙ ap not (eq-eqb k r (sym e.0 ∙ z)))
+
+pub fell-same : (n r : ℕ) (o : Option ℕ) → FellIn n o → false ≡ not (option_eq eqb o (Some r)) → n ≡ r
+fell-same n r None e h = absurd (true≢false (sym h))
+fell-same n r (Some k) e h = by (eqb k r) refl
+  where
+    by : (t : Bool) → eqb k r ≡ t → n ≡ r
+    by true q = e.0 ∙ eqb-true k r q
+    by false q = absurd (true≢false (sym (h ∙ ap not q)))
 
 -- ---- what other entries leave
 

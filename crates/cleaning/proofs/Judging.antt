@@ -2,7 +2,7 @@
 use Prim.Native.Nat.{ℕ, suc, ◌+◌, ◌%◌, ◌<◌, ◌≤◌}
 use native.Mathlib.Omega.{arith}
 use mathlib.Core.Path.{◌≡◌, refl, sym, ap, subst, ◌∙◌}
-use mathlib.Core.Bool.{Bool, true, false, ◌&&◌, ◌||◌, not, or-true, or-false, true≢false, false≢true}
+use mathlib.Core.Bool.{Bool, true, false, ◌&&◌, ◌||◌, not, true≢false, false≢true}
 use mathlib.Core.List.{List}
 use mathlib.Core.Option.{some}
 use lib.Dec.{eqb, ltb}
@@ -32,28 +32,22 @@ pub none-second : (t u : Bool) → (t || u) ≡ false → u ≡ false
 none-second true u e = absurd (true≢false e)
 none-second false u e = e
 
-module _ (w : Program) (keep : ℕ → Bool) (m : List ℕ) (p : Plan) (x : Function) (s : ℕ) (y : Sentence) (before : Bool) where
+module _ (w : Program) (keep : ℕ → Bool) (m : List ℕ) (p : Plan) (x : Function) (s : ℕ) (y : Sentence) where
   -- It is not there: nothing is asked.
-  pub judged_gone : keep s ≡ false → WitnessOf keep x.name y.pattern (sites_of w) (get_or m (witnesses p + s) 0) → SentenceJudged w keep m p x s y before before
+  pub judged_gone : keep s ≡ false → WitnessOf keep x.name y.pattern (sites_of w) (get_or m (witnesses p + s) 0) → SentenceJudged w keep m p x s y false
   judged_gone e a = record {
     witness = a;
     spent = λ t. absurd (false≢true (sym e ∙ t));
-    answer = sym (or-false before) ∙ sym (ap (λ (t : Bool). before || (t && is_met_by w keep x y)) e);
+    answer = sym (ap (λ (t : Bool). t && is_met_by w keep x y) e);
   }
 
   module _ (sites : length (sites_of w) ≡ p.sites) (there : keep s ≡ true) where
-    judged_by_lem : (r : Bool) → StillMet keep x.name y.pattern (sites_of w) (get_or m (witnesses p + s) 0) r → (n : Bool) → n ≡ (before || r) → SentenceJudged w keep m p x s y before n
-    judged_by_lem r h n e = record {
+    pub judged_there : (r : Bool) → StillMet keep x.name y.pattern (sites_of w) (get_or m (witnesses p + s) 0) r → SentenceJudged w keep m p x s y r
+    judged_there r h = record {
       witness = h.witness;
       spent = λ t. ap (λ (k : ℕ). eqb (get_or m (witnesses p + s) 0) (suc k)) (sym sites) ∙ h.spent ∙ ap not h.answer;
-      answer = e ∙ ap (λ (t : Bool). before || t) h.answer ∙ sym (ap (λ (t : Bool). before || (t && is_met_by w keep x y)) there);
+      answer = h.answer ∙ sym (ap (λ (t : Bool). t && is_met_by w keep x y) there);
     }
-
-    pub judged_met : (r : Bool) → r ≡ true → StillMet keep x.name y.pattern (sites_of w) (get_or m (witnesses p + s) 0) r → SentenceJudged w keep m p x s y before true
-    judged_met r e h = judged_by_lem r h true (sym (ap (λ (t : Bool). before || t) e ∙ or-true before))
-
-    pub judged_unmet : (r : Bool) → r ≡ false → StillMet keep x.name y.pattern (sites_of w) (get_or m (witnesses p + s) 0) r → SentenceJudged w keep m p x s y before before
-    judged_unmet r e h = judged_by_lem r h before (sym (or-false before) ∙ sym (ap (λ (t : Bool). before || t) e))
 
 -- ---- only witnesses are written
 
@@ -92,7 +86,7 @@ module _ (w : Program) (keep : ℕ → Bool) (p : Plan) (f : ℕ) (x : Function)
     one = λ e. absurd (false≢true e);
   }
 
-  module _ (one two : List ℕ) (s : ℕ) (y : Sentence) (o : Owns w f x s y) (before r : Bool) (j : SentenceJudged w keep two p x s y before r) (count : length (own_sentences w.functions) ≡ p.sentences) (others : OneColumn p one two (witnesses p + s)) where
+  module _ (one two : List ℕ) (s : ℕ) (y : Sentence) (o : Owns w f x s y) (before r : Bool) (j : SentenceJudged w keep two p x s y r) (count : length (own_sentences w.functions) ≡ p.sentences) (others : OneColumn p one two (witnesses p + s)) where
     kept-witness : (t : ℕ) (u : Sentence) → get_elem? (own_sentences w.functions) t ≡ some u → (t ≡ s → ⊥) → get_or two (witnesses p + t) 0 ≡ get_or one (witnesses p + t) 0
     kept-witness t u q d = others.others (witnesses p + t) (omega (arith, element_below (own_sentences w.functions) t u q, count)) (λ e. d (omega (arith, e)))
 
@@ -108,11 +102,14 @@ module _ (w : Program) (keep : ℕ → Bool) (p : Plan) (f : ℕ) (x : Function)
             (subst (λ (v : Function). WitnessOf keep v.name u.pattern (sites_of w) (get_or two (witnesses p + s) 0)) (sym (same_owner w f g x z s y u o q₂))
             (subst (λ (v : Sentence). WitnessOf keep x.name v.pattern (sites_of w) (get_or two (witnesses p + s) 0)) (element_same (own_sentences w.functions) s y u o.sentence q₂.sentence) j.witness))
 
-    pub judged_next : JudgedUpto w keep one p f x s before → JudgedUpto w keep two p f x (s + 1) r
+    so_far : (before || r) ≡ (before || (keep s && is_met_by w keep x y))
+    so_far = ap (λ (t : Bool). before || t) j.answer
+
+    pub judged_next : JudgedUpto w keep one p f x s before → JudgedUpto w keep two p f x (s + 1) (before || r)
     judged_next h = record {
       spent = λ t u q l k. spent-by t u q l k (ltb t s) refl;
       none = λ e t u q l k. none-by e t u q l k (ltb t s) refl;
-      one = λ e. one-by before refl (keep s) refl (is_met_by w keep x y) refl (sym e ∙ j.answer);
+      one = λ e. one-by before refl (keep s) refl (is_met_by w keep x y) refl (sym e ∙ so_far);
     }
       where
         same-sentence : (t : ℕ) (u : Sentence) → Owns w f x t u → t ≡ s → u ≡ y
@@ -130,11 +127,11 @@ module _ (w : Program) (keep : ℕ → Bool) (p : Plan) (f : ℕ) (x : Function)
         unmet true u e g = e
         unmet false u e g = absurd (false≢true g)
 
-        none-by : r ≡ false → (t : ℕ) (u : Sentence) → Owns w f x t u → t < s + 1 → keep t ≡ true → (v : Bool) → ltb t s ≡ v → is_met_by w keep x u ≡ false
-        none-by n t u q l k true e = h.none (none_first before (keep s && is_met_by w keep x y) (sym j.answer ∙ n)) t u q (ltb-true t s e) k
+        none-by : (before || r) ≡ false → (t : ℕ) (u : Sentence) → Owns w f x t u → t < s + 1 → keep t ≡ true → (v : Bool) → ltb t s ≡ v → is_met_by w keep x u ≡ false
+        none-by n t u q l k true e = h.none (none_first before (keep s && is_met_by w keep x y) (sym so_far ∙ n)) t u q (ltb-true t s e) k
         none-by n t u q l k false e =
             let i : t ≡ s = omega (arith, l, ltb-false t s e) in
-            ap (λ (v : Sentence). is_met_by w keep x v) (same-sentence t u q i) ∙ unmet (keep s) (is_met_by w keep x y) (none-second before (keep s && is_met_by w keep x y) (sym j.answer ∙ n)) (sym (ap keep i) ∙ k)
+            ap (λ (v : Sentence). is_met_by w keep x v) (same-sentence t u q i) ∙ unmet (keep s) (is_met_by w keep x y) (none-second before (keep s && is_met_by w keep x y) (sym so_far ∙ n)) (sym (ap keep i) ∙ k)
 
         one-by : (t : Bool) → before ≡ t → (u : Bool) → keep s ≡ u → (v : Bool) → is_met_by w keep x y ≡ v → true ≡ (t || (u && v)) → OneMet w keep f x
         one-by true a u b v c e = h.one a
@@ -189,9 +186,9 @@ module _ (b old : List ℕ) (p : Plan) (f first end round : ℕ) where
     }
 
     pub judge_steps : (two : List ℕ) (before r : Bool)
-        → ((v : Program) (z : Function) (y : Sentence) → Indexed b v one p → Owns v f z s y → WitnessOf (is_there (fell_of p one) round) z.name y.pattern (sites_of v) (get_or one (witnesses p + s) 0) → SentenceJudged v (is_there (fell_of p one) round) two p z s y before r)
-        → OneColumn p one two (witnesses p + s) → Witnessed keep w one p × JudgedUpto w keep one p f x s before → Witnessed keep w two p × JudgedUpto w keep two p f x (s + 1) r
+        → ((v : Program) (z : Function) (y : Sentence) → Indexed b v one p → Owns v f z s y → WitnessOf (is_there (fell_of p one) round) z.name y.pattern (sites_of v) (get_or one (witnesses p + s) 0) → SentenceJudged v (is_there (fell_of p one) round) two p z s y r)
+        → OneColumn p one two (witnesses p + s) → Witnessed keep w one p × JudgedUpto w keep one p f x s before → Witnessed keep w two p × JudgedUpto w keep two p f x (s + 1) (before || r)
     judge_steps two before r judged o h =
-        let j : SentenceJudged w keep two p x s own.element before r
-        = subst (λ (k : ℕ → Bool). SentenceJudged w k two p x s own.element before r) same_keep (judged w x own.element indexed_now owns (witness_now h.0)) in
+        let j : SentenceJudged w keep two p x s own.element r
+        = subst (λ (k : ℕ → Bool). SentenceJudged w k two p x s own.element r) same_keep (judged w x own.element indexed_now owns (witness_now h.0)) in
         (witnessed-next w keep p f x one two s own.element owns before r j d.sentences o h.0, judged_next w keep p f x one two s own.element owns before r j d.sentences o h.1)

@@ -69,7 +69,7 @@ module _ {b m : List ℕ} {p : Plan} {w : Program} (l : ProgramListed b w m p) (
         count = l.sites;
       }
 
-      pub filed-cleared : SomeFiled b m₃ p.functions (r + p.sites + p.sites) (length m - (r + p.sites + p.sites + p.functions))
+      pub filed-cleared : SomeFiled b m₃ (record { functions = p.functions; at = r + p.sites + p.sites; buckets = length m - (r + p.sites + p.sites + p.functions) })
       filed-cleared = record { functions = w.functions; tabled = tabled-cleared; filed = indexed-cleared.filed; fits = omega (arith, room-left, same_size); some = omega (arith, room-left) }
 
       pub columns-cleared : Columns m₃ p.functions r (r + p.sites) p.sites (r + p.sites + p.sites) (length m - (r + p.sites + p.sites + p.functions))
@@ -86,7 +86,7 @@ module _ {b m : List ℕ} {p : Plan} {w : Program} (l : ProgramListed b w m p) (
         pub indexed-linked : linking.Indexed b m₄ p.functions r p.sites (r + p.sites + p.sites) (length m - (r + p.sites + p.sites + p.functions)) w.functions (sites_of w)
         indexed-linked = indexed-after columns-cleared o indexed-cleared
 
-        pub filed-linked : SomeFiled b m₄ p.functions (r + p.sites + p.sites) (length m - (r + p.sites + p.sites + p.functions))
+        pub filed-linked : SomeFiled b m₄ (record { functions = p.functions; at = r + p.sites + p.sites; buckets = length m - (r + p.sites + p.sites + p.functions) })
         filed-linked = some_filed_after columns-cleared o filed-cleared
 
         pub small-linked : length m₄ ≤ 32768

@@ -2,7 +2,7 @@
 use Prim.Native.Nat.{ℕ, suc, ◌+◌, ◌-◌, ◌/◌, ◌%◌, ◌<◌, ◌≤◌}
 use native.Mathlib.Omega.{arith}
 use mathlib.Core.Path.{◌≡◌, refl, sym, ap, ap₂, subst, ◌∙◌}
-use mathlib.Core.Bool.{Bool, true, false, ◌&&◌, ◌||◌, cond, and-true, and-false, true≢false, false≢true}
+use mathlib.Core.Bool.{Bool, true, false, ◌&&◌, ◌||◌, cond, and-true, and-false, or-false, true≢false, false≢true}
 use mathlib.Core.List.{List}
 use mathlib.Core.Option.{some}
 use lib.Dec.{eqb, leb, ltb}
@@ -45,7 +45,7 @@ fell-entry p one two s e = ap (λ (n : ℕ). cond (ltb s p.sentences) (n / 32768
 
 -- ---- what dropping leaves
 
-module _ {p : Plan} {one two : List ℕ} {first end r : ℕ} {before dropped : Bool} (within : end ≤ p.sentences) (h : SentencesDropped one two p first end r before dropped) where
+module _ {p : Plan} {one two : List ℕ} {first end r : ℕ} {dropped : Bool} (within : end ≤ p.sentences) (h : SentencesDropped one two p first end r dropped) where
   dropped-before : (s : ℕ) → s < first → get_or two (lines p + s) 0 ≡ get_or one (lines p + s) 0
   dropped-before s l = h.others.before (lines p + s) (omega (arith, l))
 
@@ -87,9 +87,12 @@ module _ {p : Plan} {one two : List ℕ} {first end r : ℕ} {before dropped : B
           record { test = falls_now one p s; is = h.fell s a b; none = λ z. none_in (falls_now one p) first (end - first) z s a (omega (arith, a, b)) }
       by false e false g = record { test = false; is = fell-entry p one two s (dropped-after s (ltb-false s end g)); none = λ z. refl }
 
-  dropped-changed : (old : ℕ → ℕ) → first ≤ end → Changed p.sentences old (fell_of p one) r before → Changed p.sentences old (fell_of p two) r dropped
-  dropped-changed old upto c = record { none = λ e. none-by (sym h.answer ∙ e); one = λ e. one-by before refl (some_number (falls_now one p) first (end - first)) refl (sym e ∙ h.answer) }
+  dropped-changed : (before : Bool) (old : ℕ → ℕ) → first ≤ end → Changed p.sentences old (fell_of p one) r before → Changed p.sentences old (fell_of p two) r (before || dropped)
+  dropped-changed before old upto c = record { none = λ e. none-by (sym so_far ∙ e); one = λ e. one-by before refl (some_number (falls_now one p) first (end - first)) refl (sym e ∙ so_far) }
     where
+      so_far : (before || dropped) ≡ (before || some_number (falls_now one p) first (end - first))
+      so_far = ap (λ (t : Bool). before || t) h.answer
+
       none-by : (before || some_number (falls_now one p) first (end - first)) ≡ false → (s : ℕ) → fell_of p two s ≡ old s
       none-by e s =
           let d = dropped_as s in
@@ -141,21 +144,21 @@ module _ {b : List ℕ} {w : Program} {old now : List ℕ} {p : Plan} {root r f 
       }
 
   module _ (x : Function) (is : get_elem? w.functions f ≡ some x) where
-    skip : ((s : ℕ) (y : Sentence) → Owns w f x s y → (rejects_in w keep f x y.pattern && some_in w keep f x) ≡ false) → RoundAt b w old now p r (suc f) before
-    skip h = record { only = at.only; witnessed = at.witnessed; so_far = skipped w (fell_of p old) r f x is (fell_of p now) at.so_far h; changed-is = at.changed-is }
+    skip : ((s : ℕ) (y : Sentence) → Owns w f x s y → (rejects_in w keep f x y.pattern && some_in w keep f x) ≡ false) → RoundAt b w old now p r (suc f) (before || false)
+    skip h = subst (RoundAt b w old now p r (suc f)) (sym (or-false before)) record { only = at.only; witnessed = at.witnessed; so_far = skipped w (fell_of p old) r f x is (fell_of p now) at.so_far h; changed-is = at.changed-is }
 
-    pub skip_root : f ≡ root → RoundAt b w old now p r (suc f) before
+    pub skip_root : f ≡ root → RoundAt b w old now p r (suc f) (before || false)
     skip_root e = skip (λ s y o. ap (λ (t : Bool). t && some_in w keep f x) (rejects-root w keep f x (e ∙ ready.root_is) y.pattern))
 
-    pub skip_passed : is_judged (is_there (fell_of p now) r) x.name (sites_of w) ≡ false → RoundAt b w old now p r (suc f) before
+    pub skip_passed : is_judged (is_there (fell_of p now) r) x.name (sites_of w) ≡ false → RoundAt b w old now p r (suc f) (before || false)
     skip_passed e = skip (λ s y o. ap (λ (t : Bool). t && some_in w keep f x) (rejects_passed w keep f x (ap (λ (k : ℕ → Bool). is_judged k x.name (sites_of w)) (sym keep_at) ∙ e) y.pattern))
 
     -- It is judged.
     module _ (other : f ≡ root_place w → ⊥) (judged : is_judged keep x.name (sites_of w) ≡ true) where
-      pub skip-none : JudgedUpto w keep now p f x (sentences_before (suc f) w.functions) false → RoundAt b w old now p r (suc f) before
+      pub skip-none : JudgedUpto w keep now p f x (sentences_before (suc f) w.functions) false → RoundAt b w old now p r (suc f) (before || false)
       skip-none j = skip (λ s y o. ap (λ (t : Bool). rejects_in w keep f x y.pattern && t) (some-none w keep f x is other judged (λ s y o t. j.none refl s y o o.upto t)) ∙ and-false (rejects_in w keep f x y.pattern))
 
-      module _ (j : JudgedUpto w keep now p f x (sentences_before (suc f) w.functions) true) {two : List ℕ} {dropped : Bool} (h : SentencesDropped now two p (sentences_before f w.functions) (sentences_before (suc f) w.functions) r before dropped) where
+      module _ (j : JudgedUpto w keep now p f x (sentences_before (suc f) w.functions) true) {two : List ℕ} {dropped : Bool} (h : SentencesDropped now two p (sentences_before f w.functions) (sentences_before (suc f) w.functions) r dropped) where
         fell-done : (s : ℕ) (y : Sentence) → Owns w f x s y → fell_of p two s ≡ cond (keep s && (rejects_in w keep f x y.pattern && some_in w keep f x)) r (fell_of p old s)
         fell-done s y o =
             h.fell s o.from o.upto
@@ -172,13 +175,13 @@ module _ {b : List ℕ} {w : Program} {old now : List ℕ} {p : Plan} {root r f 
                 ∙ sym (and-true (rejects_in w keep f x y.pattern))
                 ∙ ap (λ (t : Bool). rejects_in w keep f x y.pattern && t) (sym (some_one w keep f x is other judged (j.one refl)))
 
-        pub drop-one : RoundAt b w old two p r (suc f) dropped
+        pub drop-one : RoundAt b w old two p r (suc f) (before || dropped)
         drop-one = record {
           only = only-on at.only (dropped-only end-at h);
           witnessed = dropped-witnessed end-at h keep w at.witnessed;
           so_far = so_far-next w (fell_of p old) r f x is (fell_of p now) (fell_of p two) at.so_far (record { fell = fell-done })
               (λ s l. fell-entry p now two s (dropped-before end-at h s l)) (λ s l. fell-entry p now two s (dropped-after end-at h s l));
-          changed-is = dropped-changed end-at h (fell_of p old) (before-later w.functions f (suc f) (omega arith)) at.changed-is;
+          changed-is = dropped-changed end-at h before (fell_of p old) (before-later w.functions f (suc f) (omega arith)) at.changed-is;
         }
 
 -- The same of a function that has just been judged.
@@ -200,13 +203,13 @@ module _ {b : List ℕ} {w : Program} {old now : List ℕ} {p : Plan} {root r f 
       subst (λ (k : ℕ → Bool). JudgedUpto w k one p f x (sentences_before (suc f) w.functions) t) (keep_at ready at)
       (subst (λ (n : ℕ). JudgedUpto w (is_there (fell_of p now) r) one p f x n t) stop (subst (λ (u : Bool). JudgedUpto w (is_there (fell_of p now) r) one p f x end u) e j.1))
 
-  pub judged_none : met ≡ false → RoundAt b w old one p r (suc f) before
+  pub judged_none : met ≡ false → RoundAt b w old one p r (suc f) (before || false)
   judged_none e = skip-none ready at_one x is other-root judged_now (upto_now false e)
 
-  pub judged_one : met ≡ true → {two : List ℕ} {dropped : Bool} → SentencesDropped one two p first end r before dropped → RoundAt b w old two p r (suc f) dropped
+  pub judged_one : met ≡ true → {two : List ℕ} {dropped : Bool} → SentencesDropped one two p first end r dropped → RoundAt b w old two p r (suc f) (before || dropped)
   judged_one e {two} {dropped} h =
       drop-one ready at_one x is other-root judged_now (upto_now true e)
-      (subst (λ (n : ℕ). SentencesDropped one two p (sentences_before f w.functions) n r before dropped) stop (subst (λ (n : ℕ). SentencesDropped one two p n end r before dropped) begin h))
+      (subst (λ (n : ℕ). SentencesDropped one two p (sentences_before f w.functions) n r dropped) stop (subst (λ (n : ℕ). SentencesDropped one two p n end r dropped) begin h))
 
 -- ---- all functions
 

@@ -5,19 +5,20 @@ use mathlib.Core.Path.{◌≡◌, refl, sym, ap, ap₂, subst, ◌∙◌}
 use mathlib.Core.Bool.{Bool, true, false, ◌&&◌, ◌||◌, not}
 use mathlib.Core.List.{List}
 use mathlib.Core.Option.{some}
-use borrow.Author.Tests.{ltb-true, ltb-false, lt-ltb, le-ltb, eqb-true, eqb-false, eq-eqb, ne_eqb}
+use borrow.Author.Tests.{ltb-true, ltb-false, eqb-true, eqb-false, eq-eqb, ne_eqb}
 use lib.Dec.{eqb, leb, ltb}
 use lib.ListN.{length, get_or, get_elem?}
+use Rattle.std.specs.Prelude.{Option, is_some}
 use Rattle.program.specs.Syntax.{Name, Function, Program}
 use Rattle.meaning.specs.Lists.{any}
 use Rattle.told.specs.Numbered.{Held, sites_of}
 use Rattle.restrictions.specs.Entries.{entry_sentence}
 use Rattle.index.specs.declared.Plan.{Plan}
 use Rattle.index.specs.Layout.{heads, calls, links}
-use Rattle.index.specs.First.{First}
+use Rattle.index.specs.First.{First, FirstFrom}
 use Rattle.told.specs.Calls.{is_listed}
 use Rattle.index.specs.Links.{list_head, entry_next}
-use Rattle.index.proofs.First.{Element, element_at, element_below, element_same, first_any}
+use Rattle.index.proofs.First.{Element, element_at, element_below, element_same, any_from}
 use Rattle.told.specs.History.{is_there}
 use Rattle.told.specs.Asked.{uncharacterises, restricts, is_judged}
 use Rattle.cleaning.specs.Indexed.{Indexed}
@@ -139,11 +140,11 @@ module _ {b : List ℕ} {w : Program} {m : List ℕ} {p : Plan} (d : Indexed b w
   pub walk_from : (kind : Bool) (i : ℕ) → i ≡ list_head kind (get_or m (heads p + f) 0) → SomeWalk m p i
   walk_from kind i z = record { kind = kind; name = x.name; sites = sites_of w; from = 0; walkable = indexed-walkable d kind f x e; begins = head_first kind i z }
 
-module _ (keep : ℕ → Bool) (f : Name) (sites : List Held) (opening : ℕ) (o : First (is_there_listed keep false f) 0 sites opening) where
-  pub judged_open : opening < length sites → false ≡ is_judged keep f sites
+module _ (keep : ℕ → Bool) (f : Name) (sites : List Held) (opening : Option ℕ) (o : FirstFrom (is_there_listed keep false f) 0 sites opening) where
+  pub judged_open : is_some opening ≡ true → false ≡ is_judged keep f sites
   unfolding is_judged uncharacterises
-  judged_open h = sym (ap (λ (t : Bool). not t && any (restricts keep f) sites) (first_any o ∙ lt-ltb opening (length sites) h))
+  judged_open h = sym (ap (λ (t : Bool). not t && any (restricts keep f) sites) (any_from (is_there_listed keep false f) sites opening o ∙ h))
 
-  pub judged_plain : length sites ≤ opening → (plain : ℕ) → First (is_there_listed keep true f) 0 sites plain → ltb plain (length sites) ≡ is_judged keep f sites
+  pub judged_plain : is_some opening ≡ false → (plain : Option ℕ) → FirstFrom (is_there_listed keep true f) 0 sites plain → is_some plain ≡ is_judged keep f sites
   unfolding is_judged uncharacterises restricts
-  judged_plain h plain g = sym (ap₂ (λ (t u : Bool). not t && u) (first_any o ∙ le-ltb opening (length sites) h) (first_any g))
+  judged_plain h plain g = sym (ap₂ (λ (t u : Bool). not t && u) (any_from (is_there_listed keep false f) sites opening o ∙ h) (any_from (is_there_listed keep true f) sites plain g))

@@ -1,5 +1,5 @@
 -- A program as the entries of work: what rounds and report read, and the round in which each sentence fell.
-use Rattle.std.specs.Prelude.{ℕ, ◌+◌, ◌/◌, ◌%◌, ◌<◌, ◌≤◌, ◌≡◌, cond, List, ltb, length, get_or}
+use Rattle.std.specs.Prelude.{ℕ, ◌+◌, ◌/◌, ◌%◌, ◌<◌, ◌≤◌, ◌≡◌, cond, List, Option, None, Some, ltb, length, get_or}
 use Rattle.std.proofs.Math.Option.{some}
 use Rattle.std.proofs.Math.ListN.{get_elem?}
 use Rattle.program.specs.Syntax.{Function, Program}
@@ -37,6 +37,11 @@ pub record SomeBody (m : List ℕ) (p : Plan) : Type 0 where
 -- The round in which the sentence s fell, 12 bits above its place.
 unfoldable pub fell_of : Plan → List ℕ → ℕ → ℕ
 fell_of p m s = cond (ltb s p.sentences) (get_or m (lines p + s) 0 / 32768 % 4096) 0
+
+-- The number n of a round as an answer: none, if the sentence never fell.
+abbrev pub FellIn : ℕ → Option ℕ → Type 0
+FellIn n None = n ≡ 0
+FellIn n (Some r) = (n ≡ r) × (0 < r) × (r < 4096)
 
 -- Only rounds, witnesses and notes have been written, and the room: places of sentences, and all other columns, are as they were.
 pub record OnlyRounds (p : Plan) (old new : List ℕ) : Type 0 where

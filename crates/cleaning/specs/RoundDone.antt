@@ -1,5 +1,5 @@
 -- A round by the numbers, function by function.
-use Rattle.std.specs.Prelude.{ℕ, suc, ◌+◌, ◌-◌, ◌%◌, ◌<◌, ◌≤◌, ◌≡◌, Bool, true, false, ◌&&◌, ◌||◌, not, cond, List, eqb, get_or}
+use Rattle.std.specs.Prelude.{ℕ, suc, ◌+◌, ◌-◌, ◌%◌, ◌<◌, ◌≤◌, ◌≡◌, Bool, true, false, ◌&&◌, not, cond, List, eqb, get_or}
 use Rattle.std.proofs.Math.Option.{some}
 use Rattle.std.proofs.Math.ListN.{get_elem?}
 use Rattle.program.specs.Syntax.{Terms, Function, Program}
@@ -70,11 +70,11 @@ pub record Changed (count : ℕ) (old new : ℕ → ℕ) (r : ℕ) (changed : Bo
   pub none : changed ≡ false → (s : ℕ) → new s ≡ old s
   pub one : changed ≡ true → OneFell count new r
 
--- The sentence s, which is y of the function x, has been judged; r says whether it or one before it is met.
-pub record SentenceJudged (w : Program) (keep : ℕ → Bool) (m : List ℕ) (p : Plan) (x : Function) (s : ℕ) (y : Sentence) (before r : Bool) : Type 0 where
+-- The sentence s, which is y of the function x, has been judged; r says whether it is met.
+pub record SentenceJudged (w : Program) (keep : ℕ → Bool) (m : List ℕ) (p : Plan) (x : Function) (s : ℕ) (y : Sentence) (r : Bool) : Type 0 where
   pub witness : WitnessOf keep x.name y.pattern (sites_of w) (get_or m (witnesses p + s) 0)
   pub spent : keep s ≡ true → is_spent m p s ≡ not (is_met_by w keep x y)
-  pub answer : r ≡ (before || (keep s && is_met_by w keep x y))
+  pub answer : r ≡ (keep s && is_met_by w keep x y)
 
 -- The f-th function of w has the sentences from `first` up to `end`, and witnesses for them.
 pub record SomeFunction (b m : List ℕ) (p : Plan) (f first end round : ℕ) : Type 0 where
@@ -86,19 +86,19 @@ pub record SomeFunction (b m : List ℕ) (p : Plan) (f first end round : ℕ) : 
   pub from : first ≡ sentences_before f program.functions
   pub upto : end ≡ sentences_before (suc f) program.functions
 
--- The sentence s has fallen if it was to fall, and r says whether it or one before it has.
-pub record SentenceDropped (old new : List ℕ) (p : Plan) (s r : ℕ) (before dropped : Bool) : Type 0 where
+-- The sentence s has fallen if it was to fall, and `dropped` says whether it has.
+pub record SentenceDropped (old new : List ℕ) (p : Plan) (s r : ℕ) (dropped : Bool) : Type 0 where
   pub fell : fell_of p new s ≡ cond (falls_now old p s) r (fell_of p old s)
   pub place : get_or new (lines p + s) 0 % 32768 ≡ get_or old (lines p + s) 0 % 32768
   pub others : OneEntry old new (lines p + s)
-  pub answer : dropped ≡ (before || falls_now old p s)
+  pub answer : dropped ≡ falls_now old p s
 
 -- The same of the sentences from `first` up to `end`.
-pub record SentencesDropped (old new : List ℕ) (p : Plan) (first end r : ℕ) (before dropped : Bool) : Type 0 where
+pub record SentencesDropped (old new : List ℕ) (p : Plan) (first end r : ℕ) (dropped : Bool) : Type 0 where
   pub fell : (s : ℕ) → first ≤ s → s < end → fell_of p new s ≡ cond (falls_now old p s) r (fell_of p old s)
   pub place : (s : ℕ) → first ≤ s → s < end → get_or new (lines p + s) 0 % 32768 ≡ get_or old (lines p + s) 0 % 32768
   pub others : Apart old new (lines p + first) (lines p + end)
-  pub answer : dropped ≡ (before || some_number (falls_now old p) first (end - first))
+  pub answer : dropped ≡ some_number (falls_now old p) first (end - first)
 
 -- What the code of a round begins with: the entries of w, witnesses, all falls before this round.
 pub record RoundReady (b : List ℕ) (w : Program) (m : List ℕ) (p : Plan) (root r : ℕ) : Type 0 where
@@ -120,9 +120,10 @@ pub record RoundAt (b : List ℕ) (w : Program) (old new : List ℕ) (p : Plan) 
   pub so_far : RoundSoFar w (fell_of p old) (fell_of p new) r f
   pub changed-is : Changed p.sentences (fell_of p old) (fell_of p new) r changed
 
-pub record SomeRoundAt (b m : List ℕ) (p : Plan) (root r f : ℕ) (changed : Bool) : Type 0 where
+pub record SomeRoundAt (b m : List ℕ) (p : Plan) (root r f : ℕ) : Type 0 where
   pub program : Program
   pub old : List ℕ
+  pub changed : Bool
   pub ready : RoundReady b program old p root r
   pub at : RoundAt b program old m p r f changed
 

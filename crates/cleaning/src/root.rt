@@ -7,6 +7,8 @@ ghost use Rattle.image.specs.Parts.{FunctionAt};
 ghost use Rattle.index.specs.Tabled.{Tabled, SomeTabled};
 ghost use Rattle.meaning.specs.Root.{entry_place};
 
+use index::table::place_of;
+
 // The visibility of the function that stands at p, as its byte.
 fn visibility_at(b: &[u8], p: usize) -> u8
     requires { FunctionAt (drop p b.now) }
@@ -21,13 +23,11 @@ pub fn root_place(b: &[u8], work: &[u32], functions: usize) -> usize
     requires { SomeTabled b.now work.now functions }
     ensures { (fs : List Function) → Tabled b.now work.now functions fs → result ≡ get_or (entry_place (map (λ f. f.visibility) fs)) zero }
 {
-    let mut f = 0;
-    while f < functions {
-        let p = (work[f] % 32768) as usize;
+    for f in 0..functions {
+        let p = place_of(work, f);
         if visibility_at(b, p) == 1 {
             return f;
         }
-        f += 1;
     }
     0
 }

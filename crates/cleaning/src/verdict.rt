@@ -14,7 +14,6 @@ ghost use Rattle.cleaning.specs.Walks.{SomeAsked};
 
 use index::Plan;
 use index::classes::site_argument;
-use index::columns::{calls_of, room_of};
 use overlap::patterns_verdict;
 use patterns::Verdict;
 
@@ -24,8 +23,8 @@ pub fn verdict_at(b: &[u8], work: &mut [u32], plan: Plan, pattern: usize, i: usi
     ensures answers { (w : Program) (f : ℕ) (x : Function) (y : Held) → Indexed b.now w work.old plan → get_elem? w.functions f ≡ some x → get_elem? (sites_of w) i ≡ some y → is_listed true x.name y ≡ true → (t : TermsAt Mode.pattern (drop pattern b.now)) → result ≡ patterns_overlap t.terms y.site.argument }
     ensures keeps { Used plan work.old work.new }
 {
-    let k = calls_of(plan) + i;
+    let k = plan.calls() + i;
     let q = site_argument(b, work[k]);
-    let from = room_of(plan);
+    let from = plan.room();
     patterns_verdict(b, pattern, q, &mut work[from..])
 }

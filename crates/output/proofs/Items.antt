@@ -1,11 +1,12 @@
 -- Items by their marks.
 use Prim.Native.Nat.{ℕ, ◌<◌}
 use native.Mathlib.Omega.{arith}
-use mathlib.Core.Path.{◌≡◌, sym, ap, ◌∙◌}
+use mathlib.Core.Path.{◌≡◌, refl, sym, ap, ◌∙◌}
 use mathlib.Core.Bool.{Bool, true, false, cond}
 use mathlib.Core.List.{List, ◌∷◌}
 use lib.ListN.{length, get_or, drop}
 use borrow.Author.Tests.{eq-eqb, ne_eqb}
+use Rattle.std.specs.Int.{from_bool}
 use Rattle.program.specs.Encode.{put_head, put_sentences, put_function}
 use Rattle.image.specs.Parts.{Passes, put_sentence, SentenceAt, FunctionAt}
 use Rattle.output.specs.Items.{Item, after, is_sentence, is_written, sentence_one, kept_one}
@@ -82,3 +83,8 @@ module _ (s : List ℕ) (n : get_or s 0 0 ≡ 10 → ⊥) where
 
     pub other-written : (w : ℕ) → w ≡ cond (is_written keep i s) w 0
     other-written w = ap (λ (t : Bool). cond t w 0) (sym (written_is s false (not_sentence s n) keep i))
+
+-- a truth value as a number
+pub from_bool-cond : (b : Bool) → from_bool b ≡ cond b 1 0
+from_bool-cond true = refl
+from_bool-cond false = refl

@@ -96,16 +96,16 @@ and_true true = refl
 and_true false = refl
 
 pub turn-fell : (p : Plan) (old ys : List ℕ) (from end s : ℕ) → from ≡ marks p → end ≡ calls p → calls p ≤ length old → length ys ≡ length (mid_of from (end - from) old)
-    → is_kept ys s ≡ false → ((j : ℕ) → (j ≡ s → ⊥) → is_kept ys j ≡ is_kept (mid_of from (end - from) old) j) → (r : ℕ) → r ≡ fell_of p old s → (r ≡ 0 → ⊥) → Turned p old (put_mid from (end - from) old ys) s
-turn-fell p old ys from end s a b k n off other r e z = (
-  ap (λ (l : List ℕ). is_kept l s) (marked_back p old ys from end a b k n) ∙ (off ∙ sym (ap (λ (t : Bool). is_kept (marked p old) s && t) (ne_eqb (fell_of p old s) 0 (λ d. z (e ∙ d))) ∙ and_false (is_kept (marked p old) s))),
+    → is_kept ys s ≡ false → ((j : ℕ) → (j ≡ s → ⊥) → is_kept ys j ≡ is_kept (mid_of from (end - from) old) j) → (fell_of p old s ≡ 0 → ⊥) → Turned p old (put_mid from (end - from) old ys) s
+turn-fell p old ys from end s a b k n off other z = (
+  ap (λ (l : List ℕ). is_kept l s) (marked_back p old ys from end a b k n) ∙ (off ∙ sym (ap (λ (t : Bool). is_kept (marked p old) s && t) (ne_eqb (fell_of p old s) 0 z) ∙ and_false (is_kept (marked p old) s))),
   λ j u. ap (λ (l : List ℕ). is_kept l j) (marked_back p old ys from end a b k n) ∙ (other j u ∙ ap (λ (l : List ℕ). is_kept l j) (marked-lent p old ys from end a b k n)),
   marks-apart p old ys from end a b k n,
 )
 
-pub turn_stays : (p : Plan) (old : List ℕ) (s r : ℕ) → r ≡ fell_of p old s → r ≡ 0 → Turned p old old s
-turn_stays p old s r e z = (
-  sym (ap (λ (t : Bool). is_kept (marked p old) s && t) (eq-eqb (fell_of p old s) 0 (sym e ∙ z)) ∙ and_true (is_kept (marked p old) s)),
+pub turn_stays : (p : Plan) (old : List ℕ) (s : ℕ) → fell_of p old s ≡ 0 → Turned p old old s
+turn_stays p old s z = (
+  sym (ap (λ (t : Bool). is_kept (marked p old) s && t) (eq-eqb (fell_of p old s) 0 z) ∙ and_true (is_kept (marked p old) s)),
   λ j u. refl,
   record { length = refl; before = λ k l. refl; after = λ k l. refl },
 )

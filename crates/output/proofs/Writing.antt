@@ -1,28 +1,32 @@
 -- What stores into a slice leave.
-use Prim.Native.Nat.{ℕ, suc, ◌+◌, ◌≤◌, ◌<◌, ◌/◌, ◌%◌}
+use Prim.Native.Nat.{ℕ, ◌+◌, ◌-◌, ◌≤◌, ◌/◌, ◌%◌}
 use native.Mathlib.Omega.{arith}
-use mathlib.Core.Path.{◌≡◌, sym, ap, ◌∙◌}
+use mathlib.Core.Path.{◌≡◌, refl, sym, ap, ◌∙◌}
 use mathlib.Core.List.{List, [], ◌∷◌, ◌++◌, append_assoc}
-use lib.ListN.{length, get_or, take, drop, set, length-drop, length-append, take-append-drop}
-use lib.Seq.{paste, paste-suc, get_or-drop, sets-eq, take_at, drop_at, drop-drop, length-take-le}
+use lib.ListN.{length, take, drop, length-append, take-append-drop}
+use lib.Seq.{take_at, drop_at, drop-drop, length-take-le}
+use borrow.Rule.Slice.PartMut.{put_mid}
+use Rattle.std.specs.Int.{to_le_bytes}
+use Rattle.std.proofs.Common.{w32}
+use Rattle.std.proofs.lemmas.Slice.{put_mid-paste}
+use Rattle.std.proofs.lemmas.List.Edits.{paste_all}
 use Rattle.program.specs.Bytes.{put16, put32}
 
--- one more byte of a copy
-pub copy_turn : (d s : List ℕ) (at from j : ℕ) → at + j < length d → from + j < length s → set (paste d at (drop from s) j) (at + j) (get_or s (from + j) 0) ≡ paste d at (drop from s) (j + 1)
-copy_turn d s at from j hd hs =
-    let e : suc j ≡ j + 1 = omega arith in
-    let h : j < length (drop from s) = omega (arith, length-drop from s) in
-    ap (λ (b : ℕ). set (paste d at (drop from s) j) (at + j) b) (sym (get_or-drop from s j 0))
-    ∙ paste-suc d at (drop from s) j 0 hd h
-    ∙ ap (λ (k : ℕ). paste d at (drop from s) k) e
+-- after a write of the bytes zs to `s[a..a + n]`
+pub stored_part : (xs ys zs : List ℕ) (a n : ℕ) → ys ≡ zs → length zs ≡ n → put_mid a (a + n - a) xs ys ≡ take a xs ++ (zs ++ drop (a + n) xs)
+stored_part xs ys zs a n e l = put_mid-paste a (a + n - a) xs ys zs n e (omega arith) (sym l) ∙ paste_all xs a zs n (sym l)
 
-pub stored16 : (l : List ℕ) (i n a b : ℕ) → i + 2 ≤ length l → a ≡ n % 256 → b ≡ n / 256 % 256
-    → set (set l i a) (i + 1) b ≡ take i l ++ put16 n (drop (i + 2) l)
+-- the bytes of a number, the lowest first
+pub bytes32 : (n : ℕ) (k : List ℕ) → to_le_bytes w32 n ++ k ≡ put32 n k
+unfolding put32
+bytes32 n k =
+    let second : n / 65536 ≡ n / 256 / 256 = omega arith in
+    let third : n / 16777216 ≡ n / 256 / 256 / 256 = omega arith in
+    λ i. n % 256 ∷ n / 256 % 256 ∷ second i % 256 ∷ third i % 256 ∷ k
+
+pub bytes16 : (n : ℕ) (k : List ℕ) → take 2 (to_le_bytes w32 n) ++ k ≡ put16 n k
 unfolding put16
-stored16 l i n a b h ea eb =
-    let e : i + 1 ≡ suc i = omega arith in
-    ap (λ (k : ℕ). set (set l i a) k b) e ∙ sets-eq (a ∷ b ∷ []) l i h ∙ append_assoc (take i l) (a ∷ b ∷ []) (drop (i + 2) l)
-    ∙ ap (λ (x : ℕ). take i l ++ x ∷ b ∷ drop (i + 2) l) ea ∙ ap (λ (x : ℕ). take i l ++ n % 256 ∷ x ∷ drop (i + 2) l) eb
+bytes16 n k = refl
 
 -- one number after another, each where the one before it ends
 next32 : (o l front : List ℕ) (at n : ℕ) → length front ≡ at → l ≡ front ++ drop at o → take at l ++ put32 n (drop (at + 4) l) ≡ (front ++ put32 n []) ++ drop (at + 4) o
@@ -38,22 +42,6 @@ next16 o l front at n e q =
     let d : drop (at + 2) l ≡ drop (at + 2) o = sym (drop-drop 2 at l) ∙ (ap (drop 2) (ap (drop at) q ∙ drop_at front (drop at o) at e) ∙ drop-drop 2 at o) in
     ap (λ (k : List ℕ). k ++ put16 n (drop (at + 2) l)) (ap (take at) q ∙ take_at front (drop at o) at e)
     ∙ (ap (λ (k : List ℕ). front ++ put16 n k) d ∙ sym (append_assoc front (put16 n []) (drop (at + 2) o)))
-
--- a 32-bit number is two of 16 bits
-pub stored32 : (o o1 o2 : List ℕ) (at n : ℕ) → at ≤ length o
-    → o1 ≡ take at o ++ put16 n (drop (at + 2) o)
-    → o2 ≡ take (at + 2) o1 ++ put16 (n / 256 / 256) (drop (at + 2 + 2) o1)
-    → o2 ≡ take at o ++ put32 n (drop (at + 4) o)
-unfolding put16 put32
-stored32 o o1 o2 at n h q1 q2 =
-    let f : List ℕ = take at o in
-    let lf : length f ≡ at = length-take-le at o h in
-    let f1 : List ℕ = f ++ put16 n [] in
-    let l1 : length f1 ≡ at + 2 = length-append f (put16 n []) ∙ ap (λ (k : ℕ). k + 2) lf in
-    let s1 : o1 ≡ f1 ++ drop (at + 2) o = q1 ∙ next16 o o f at n lf (sym (take-append-drop at o)) in
-    let x : at + 2 + 2 ≡ at + 4 = omega arith in
-    q2 ∙ (next16 o o1 f1 (at + 2) (n / 256 / 256) l1 s1 ∙ (ap (λ (k : ℕ). (f1 ++ put16 (n / 256 / 256) []) ++ drop k o) x
-    ∙ (append_assoc f1 (put16 (n / 256 / 256) []) (drop (at + 4) o) ∙ append_assoc f (put16 n []) (put16 (n / 256 / 256) (drop (at + 4) o)))))
 
 four : (f : List ℕ) (a b c d : ℕ) (k : List ℕ) → (((f ++ put32 a []) ++ put32 b []) ++ put16 c []) ++ put16 d [] ++ k ≡ f ++ put32 a (put32 b (put16 c (put16 d k)))
 unfolding put32 put16

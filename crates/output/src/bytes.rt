@@ -8,18 +8,7 @@ pub fn copy_bytes(src: &[u8], from: usize, dst: &mut [u8], to: usize, n: usize)
     requires { (from + n ≤ length src.now) × (to + n ≤ length dst.old) }
     ensures { dst.new ≡ paste dst.old to (drop from src.now) n }
 {
-    let mut i = 0;
-    while i < n {
-        dst[to + i] = src[from + i];
-        i += 1;
-    }
-}
-
-// The low byte of n.
-fn low(n: u32) -> u8
-    ensures { result ≡ n % 256 }
-{
-    (n % 256) as u8
+    dst[to..to + n].copy_from_slice(&src[from..from + n]);
 }
 
 // Writes a 16-bit number at `at`.
@@ -27,8 +16,7 @@ pub fn write16(out: &mut [u8], at: usize, n: u32)
     requires { at + 2 ≤ length out.old }
     ensures { out.new ≡ take at out.old ++ put16 n (drop (at + 2) out.old) }
 {
-    out[at] = low(n);
-    out[at + 1] = low(n / 256);
+    out[at..at + 2].copy_from_slice(&n.to_le_bytes()[..2]);
 }
 
 // Writes a 32-bit number at `at`.
@@ -36,6 +24,5 @@ pub fn write32(out: &mut [u8], at: usize, n: u32)
     requires { at + 4 ≤ length out.old }
     ensures { out.new ≡ take at out.old ++ put32 n (drop (at + 4) out.old) }
 {
-    write16(out, at, n);
-    write16(out, at + 2, n / 256 / 256);
+    out[at..at + 4].copy_from_slice(&n.to_le_bytes());
 }

@@ -42,10 +42,8 @@ pub fn count_ones(marks: &[u32]) -> usize
     ensures { (fs : List Function) → NoneFrom (is_kept marks.now) (own_sentence_count fs) → result ≡ own_sentence_count (kept_functions (is_kept marks.now) 0 fs) }
 {
     let mut total = 0;
-    let mut j = 0;
-    while j < marks.len() {
-        total += u32::count_ones(marks[j]) as usize;
-        j += 1;
+    for word in marks {
+        total += word.count_ones() as usize;
     }
     total
 }
@@ -66,9 +64,7 @@ pub fn keep_all(marks: &mut [u32], n: usize)
     requires { (length marks.old ≤ 32768) × (n ≤ 32 * length marks.old) }
     ensures { (i : ℕ) → is_kept marks.new i ≡ ltb i n }
 {
-    let mut j = 0;
-    while j < marks.len() {
-        marks[j] = word_below(n, 32 * j);
-        j += 1;
+    for (j, word) in marks.iter_mut().enumerate() {
+        *word = word_below(n, 32 * j);
     }
 }

@@ -29,8 +29,8 @@ fn written_len(s: &[u8], marks: &[u32], i: usize, w: usize) -> usize
     requires { 0 < length s.now }
     ensures { result ≡ cond (is_written (is_kept marks.now) i s.now) w 0 }
 {
-    if s[0] == 10 {
-        if is_kept(marks, i) { w } else { 0 }
+    if s[0] == 10 && !is_kept(marks, i) {
+        0
     } else {
         w
     }
@@ -40,18 +40,14 @@ fn sentence_one(s: &[u8]) -> usize
     requires { 0 < length s.now }
     ensures { result ≡ sentence_one s.now }
 {
-    if s[0] == 10 { 1 } else { 0 }
+    usize::from(s[0] == 10)
 }
 
 fn kept_one(s: &[u8], marks: &[u32], i: usize) -> usize
     requires { 0 < length s.now }
     ensures { result ≡ kept_one (is_kept marks.now) i s.now }
 {
-    if s[0] == 10 {
-        if is_kept(marks, i) { 1 } else { 0 }
-    } else {
-        0
-    }
+    usize::from(s[0] == 10 && is_kept(marks, i))
 }
 
 // Where the functions that were written end, and how many sentences they have.

@@ -12,12 +12,6 @@ class_function-requires c =
     let p = c.requires in
     record { program = p.program; old = c.args.work.now; chains = p.chains; written = c.loop-f.invariant.1 p.program p.chains; below = c.loop-f-test.true }
 
-pub overflow_add-f : goal.overflow_add-f
-overflow_add-f c = let p = c.requires.chains in omega (arith, c.loop-f-test.true, p.fits, p.small)
-
-pub loop-f-smaller : goal.loop-f-smaller
-loop-f-smaller c = omega (arith, c.loop-f-test.true)
-
 pub loop-f-preserved : goal.loop-f-preserved
 loop-f-preserved c = (
   omega (arith, c.loop-f-test.true),

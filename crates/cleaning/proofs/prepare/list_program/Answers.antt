@@ -9,7 +9,9 @@ use Rattle.cleaning.proofs.ListedProgram.{body-room, functions-room, calls-withi
 use Rattle.cleaning.proofs.prepare.list_program.Goals as goal
 
 pub overflow_mul-functions : goal.overflow_mul-functions
-overflow_mul-functions c = omega (arith, (let it : (3 * c.args.functions + 2 * c.args.sentences + (c.args.sentences + 31) / 32 < length c.args.work.now) × (length c.args.work.now ≤ 8192) = let p = c.requires in (omega (arith, body-room p.enough p.body p.functions_are p.sentences_are), p.enough.small) in it))
+overflow_mul-functions c =
+    let both : (3 * c.args.functions + 2 * c.args.sentences + (c.args.sentences + 31) / 32 < length c.args.work.now) × (length c.args.work.now ≤ 8192) = let p = c.requires in (omega (arith, body-room p.enough p.body p.functions_are p.sentences_are), p.enough.small) in
+    omega (arith, both)
 
 pub list_functions-requires : goal.list_functions-requires
 list_functions-requires c =
@@ -17,22 +19,34 @@ list_functions-requires c =
     (omega (arith, p.body.short), p.body.within, functions-room p.enough p.body p.functions_are p.sentences_are _ c.fill.ensures.others.length, p.body.reading)
 
 pub overflow_mul-calls : goal.overflow_mul-calls
-overflow_mul-calls c = omega (arith, (let it : (3 * c.args.functions + 2 * c.args.sentences + (c.args.sentences + 31) / 32 < length c.args.work.now) × (length c.args.work.now ≤ 8192) = let p = c.requires in (omega (arith, body-room p.enough p.body p.functions_are p.sentences_are), p.enough.small) in it))
+overflow_mul-calls c =
+    let both : (3 * c.args.functions + 2 * c.args.sentences + (c.args.sentences + 31) / 32 < length c.args.work.now) × (length c.args.work.now ≤ 8192) = let p = c.requires in (omega (arith, body-room p.enough p.body p.functions_are p.sentences_are), p.enough.small) in
+    omega (arith, both)
 
 pub overflow_mul-calls-2 : goal.overflow_mul-calls-2
-overflow_mul-calls-2 c = omega (arith, (let it : (3 * c.args.functions + 2 * c.args.sentences + (c.args.sentences + 31) / 32 < length c.args.work.now) × (length c.args.work.now ≤ 8192) = let p = c.requires in (omega (arith, body-room p.enough p.body p.functions_are p.sentences_are), p.enough.small) in it))
+overflow_mul-calls-2 c =
+    let both : (3 * c.args.functions + 2 * c.args.sentences + (c.args.sentences + 31) / 32 < length c.args.work.now) × (length c.args.work.now ≤ 8192) = let p = c.requires in (omega (arith, body-room p.enough p.body p.functions_are p.sentences_are), p.enough.small) in
+    omega (arith, both)
 
 pub overflow_add-calls : goal.overflow_add-calls
-overflow_add-calls c = omega (arith, (let it : (3 * c.args.functions + 2 * c.args.sentences + (c.args.sentences + 31) / 32 < length c.args.work.now) × (length c.args.work.now ≤ 8192) = let p = c.requires in (omega (arith, body-room p.enough p.body p.functions_are p.sentences_are), p.enough.small) in it))
+overflow_add-calls c =
+    let both : (3 * c.args.functions + 2 * c.args.sentences + (c.args.sentences + 31) / 32 < length c.args.work.now) × (length c.args.work.now ≤ 8192) = let p = c.requires in (omega (arith, body-room p.enough p.body p.functions_are p.sentences_are), p.enough.small) in
+    omega (arith, both)
 
 pub overflow_add-calls-2 : goal.overflow_add-calls-2
-overflow_add-calls-2 c = omega (arith, (let it : (3 * c.args.functions + 2 * c.args.sentences + (c.args.sentences + 31) / 32 < length c.args.work.now) × (length c.args.work.now ≤ 8192) = let p = c.requires in (omega (arith, body-room p.enough p.body p.functions_are p.sentences_are), p.enough.small) in it))
+overflow_add-calls-2 c =
+    let both : (3 * c.args.functions + 2 * c.args.sentences + (c.args.sentences + 31) / 32 < length c.args.work.now) × (length c.args.work.now ≤ 8192) = let p = c.requires in (omega (arith, body-room p.enough p.body p.functions_are p.sentences_are), p.enough.small) in
+    omega (arith, both)
 
 pub overflow_add-calls-3 : goal.overflow_add-calls-3
-overflow_add-calls-3 c = omega (arith, (let it : (3 * c.args.functions + 2 * c.args.sentences + (c.args.sentences + 31) / 32 < length c.args.work.now) × (length c.args.work.now ≤ 8192) = let p = c.requires in (omega (arith, body-room p.enough p.body p.functions_are p.sentences_are), p.enough.small) in it))
+overflow_add-calls-3 c =
+    let both : (3 * c.args.functions + 2 * c.args.sentences + (c.args.sentences + 31) / 32 < length c.args.work.now) × (length c.args.work.now ≤ 8192) = let p = c.requires in (omega (arith, body-room p.enough p.body p.functions_are p.sentences_are), p.enough.small) in
+    omega (arith, both)
 
 pub offset_bounds-work-calls : goal.offset_bounds-work-calls
-offset_bounds-work-calls c = omega (arith, (let it : (3 * c.args.functions + 2 * c.args.sentences + (c.args.sentences + 31) / 32 < length c.args.work.now) × (length c.args.work.now ≤ 8192) = let p = c.requires in (omega (arith, body-room p.enough p.body p.functions_are p.sentences_are), p.enough.small) in it))
+offset_bounds-work-calls c =
+    let both : (3 * c.args.functions + 2 * c.args.sentences + (c.args.sentences + 31) / 32 < length c.args.work.now) × (length c.args.work.now ≤ 8192) = let p = c.requires in (omega (arith, body-room p.enough p.body p.functions_are p.sentences_are), p.enough.small) in
+    omega (arith, both)
 
 pub slice_bounds-program_sites-count : goal.slice_bounds-program_sites-count
 slice_bounds-program_sites-count c =

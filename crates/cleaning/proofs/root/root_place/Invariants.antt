@@ -1,5 +1,5 @@
 -- `cleaning::root::root_place` meets its contract. Assumes nothing.
-use Prim.Native.Nat.{◌-◌, ◌≤◌}
+use Prim.Native.Nat.{◌≤◌}
 use mathlib.Core.List.{List}
 use Rattle.program.specs.Syntax.{Function}
 use Rattle.index.specs.Tabled.{Tabled}
@@ -8,6 +8,3 @@ use Rattle.cleaning.proofs.root.root_place.Given as goal
 
 abbrev pub invariant-loop-f : goal.invariant-loop-f
 invariant-loop-f l = (l.f ≤ l.functions) × ((fs : List Function) → Tabled l.b l.work l.functions fs → LocalTo fs l.f)
-
-abbrev pub decreases-loop-f : goal.decreases-loop-f
-decreases-loop-f l = l.functions - l.f

@@ -1,3 +1,4 @@
+use mathlib.Core.Bool.{◌||◌}
 use Prim.Native.Nat.{ℕ, suc, ◌+◌}
 use native.Mathlib.Omega.{arith}
 use mathlib.Core.Path.{◌≡◌, subst}
@@ -12,20 +13,14 @@ pub clean_function-changed-requires : goal.clean_function-changed-requires
 clean_function-changed-requires c =
     let p = c.requires.0 in
     let h = c.loop-f in
-    (record { program = p.program; old = c.args.work.now; ready = p.ready; at = h.invariant.1 p.program p.ready }, c.loop-f-test.true, c.requires.1)
-
-pub overflow_add-f : goal.overflow_add-f
-overflow_add-f c = let d = c.requires.0.ready.indexed in omega (arith, c.loop-f-test.true, d.fits, d.small)
-
-pub loop-f-smaller : goal.loop-f-smaller
-loop-f-smaller c = omega (arith, c.loop-f-test.true)
+    (record { program = p.program; old = c.args.work.now; changed = h.changed; ready = p.ready; at = h.invariant.1 p.program p.ready }, c.loop-f-test.true, c.requires.1)
 
 pub loop-f-preserved : goal.loop-f-preserved
 loop-f-preserved c =
     let h = c.loop-f in
     let e : suc h.f ≡ h.f + 1 = omega arith in (
       omega (arith, c.loop-f-test.true),
-      λ w r. subst (λ (n : ℕ). RoundAt c.args.b.now w c.args.work.now c.clean_function-changed.new.work c.args.plan c.args.round n c.clean_function-changed.result) e (c.clean_function-changed.ensures w c.args.work.now r (h.invariant.1 w r)),
+      λ w r. subst (λ (n : ℕ). RoundAt c.args.b.now w c.args.work.now c.clean_function-changed.new.work c.args.plan c.args.round n (h.changed || c.clean_function-changed.result)) e (c.clean_function-changed.ensures w c.args.work.now h.changed r (h.invariant.1 w r)),
     )
 
 pub shape_of-work : goal.shape_of-work

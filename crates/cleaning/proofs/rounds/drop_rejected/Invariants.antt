@@ -1,10 +1,7 @@
 -- `cleaning::rounds::drop_rejected` meets its contract. Assumes nothing.
-use Prim.Native.Nat.{◌-◌, ◌≤◌}
+use Prim.Native.Nat.{◌≤◌}
 use Rattle.cleaning.specs.RoundDone.{SentencesDropped}
 use Rattle.cleaning.proofs.rounds.drop_rejected.Given as goal
 
 abbrev pub invariant-loop-s : goal.invariant-loop-s
-invariant-loop-s l = SentencesDropped l.initial.work l.work l.plan l.first l.s l.round l.before l.dropped × (l.first ≤ l.s) × (l.s ≤ l.end)
-
-abbrev pub decreases-loop-s : goal.decreases-loop-s
-decreases-loop-s l = l.end - l.s
+invariant-loop-s l = SentencesDropped l.initial.work l.work l.plan l.first l.s l.round l.dropped × (l.first ≤ l.s) × (l.s ≤ l.end)

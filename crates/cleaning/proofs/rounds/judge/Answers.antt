@@ -7,7 +7,7 @@ use Rattle.told.specs.History.{is_there}
 use Rattle.cleaning.specs.Indexed.{fell_of}
 use Rattle.cleaning.specs.Walks.{ColumnsApart}
 use Rattle.cleaning.specs.RoundDone.{JudgedUpto}
-use Rattle.cleaning.proofs.Judging.{judged_start, end-within, apart_next, judge_asks, judge_steps}
+use Rattle.cleaning.proofs.Judging.{judged_start, apart_next, judge_asks, judge_steps}
 use Rattle.cleaning.proofs.Owned.{before-later}
 use Rattle.cleaning.proofs.rounds.judge.Invariants.{Judging}
 use Rattle.cleaning.proofs.rounds.judge.Goals as goal
@@ -31,15 +31,6 @@ judge_sentence-met-requires c =
           (h.invariant.3 p.program p.function p.indexed p.is p.witnessed p.from p.upto).0,
       c.requires.1,
     )
-
-pub overflow_add-s : goal.overflow_add-s
-overflow_add-s c =
-    let a = c.args in
-    let p = c.requires.0 in
-    omega (arith, c.loop-s-test.true, end-within a.b.now a.work.now a.plan a.f a.first a.end a.round p.indexed p.upto, p.indexed.fits, p.indexed.small)
-
-pub loop-s-smaller : goal.loop-s-smaller
-loop-s-smaller c = omega (arith, c.loop-s-test.true)
 
 pub loop-s-preserved : goal.loop-s-preserved
 loop-s-preserved c =

@@ -1,5 +1,5 @@
 -- `cleaning::rounds::judge` meets its contract. Assumes nothing.
-use Prim.Native.Nat.{ℕ, suc, ◌+◌, ◌-◌, ◌≤◌}
+use Prim.Native.Nat.{ℕ, suc, ◌+◌, ◌≤◌}
 use mathlib.Core.Path.{◌≡◌}
 use mathlib.Core.Bool.{Bool}
 use mathlib.Core.List.{List}
@@ -22,6 +22,3 @@ Judging b old new p f first end round s met = (w : Program) (x : Function) → I
 
 abbrev pub invariant-loop-s : goal.invariant-loop-s
 invariant-loop-s l = ColumnsApart l.plan l.initial.work l.work (witnesses l.plan + l.first) (witnesses l.plan + l.s) × (l.first ≤ l.s) × (l.s ≤ l.end) × Judging l.b l.initial.work l.work l.plan l.f l.first l.end l.round l.s l.met
-
-abbrev pub decreases-loop-s : goal.decreases-loop-s
-decreases-loop-s l = l.end - l.s

@@ -11,19 +11,20 @@ use Rattle.cleaning.proofs.walks.site_there.Goals as goal
 
 pub is_there-requires : goal.is_there-requires
 is_there-requires c =
+    let same : let a = c.args in c.sentence_of-s.result ≡ entry_sentence (get_or a.work.now (calls a.plan + a.i) 0) = let a = c.args in
+    c.sentence_of-s.ensures.0 ∙ ap (λ (k : ℕ). entry_sentence (get_or a.work.now (k + a.i) 0)) c.calls.ensures in
     let p = c.requires in (
       omega (
         arith,
-        (let it : let a = c.args in c.sentence_of-s.result ≡ entry_sentence (get_or a.work.now (calls a.plan + a.i) 0) = let a = c.args in
-            c.sentence_of-s.ensures.0 ∙ ap (λ (k : ℕ). entry_sentence (get_or a.work.now (k + a.i) 0)) c.calls_of.ensures in it),
-        p.3,
+        same,
+        p.1,
       ),
-      omega (arith, p.1),
-      p.2,
+      (omega (arith, p.2), p.2.1),
     )
 
 pub returns : goal.returns
 returns c =
+    let same : let a = c.args in c.sentence_of-s.result ≡ entry_sentence (get_or a.work.now (calls a.plan + a.i) 0) = let a = c.args in
+    c.sentence_of-s.ensures.0 ∙ ap (λ (k : ℕ). entry_sentence (get_or a.work.now (k + a.i) 0)) c.calls.ensures in
     let a = c.args in
-    c.is_there.ensures ∙ ap (is_there (fell_of a.plan a.work.now) a.round) ((let it : let a = c.args in c.sentence_of-s.result ≡ entry_sentence (get_or a.work.now (calls a.plan + a.i) 0) = let a = c.args in
-    c.sentence_of-s.ensures.0 ∙ ap (λ (k : ℕ). entry_sentence (get_or a.work.now (k + a.i) 0)) c.calls_of.ensures in it))
+    c.is_there.ensures ∙ ap (is_there (fell_of a.plan a.work.now) a.round) (same)

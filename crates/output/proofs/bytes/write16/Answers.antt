@@ -1,11 +1,14 @@
--- `output::bytes::write16` meets its contract. Assumes nothing.
-use native.Mathlib.Omega.{arith}
-use lib.ListN.{length-set}
-use Rattle.output.proofs.Writing.{stored16}
+use mathlib.Core.List.{◌++◌}
+use mathlib.Core.Path.{refl, ap, ◌∙◌}
+use Prim.Native.Nat.{◌+◌}
+use lib.ListN.{take, drop}
+use Rattle.std.specs.Int.{to_le_bytes}
+use Rattle.std.proofs.Common.{w32}
+use Rattle.output.proofs.Writing.{stored_part, bytes16}
 use Rattle.output.proofs.bytes.write16.Goals as goal
 
-pub bounds-out-at-2 : goal.bounds-out-at-2
-bounds-out-at-2 c = simp length-set (omega arith)
-
 pub returns : goal.returns
-returns c = stored16 c.args.out.now c.args.at c.args.n c.low.result c.low-2.result c.requires c.low.ensures c.low-2.ensures
+returns c =
+    let out = c.args.out.now in
+    let at = c.args.at in
+    stored_part out c.copy_from_slice.new.self (take 2 (to_le_bytes w32 c.args.n)) at 2 (c.copy_from_slice.ensures.after ∙ ap (take 2) c.to_le_bytes.ensures) refl ∙ ap (λ k. take at out ++ k) (bytes16 c.args.n (drop (at + 2) out))

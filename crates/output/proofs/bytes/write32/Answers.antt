@@ -1,8 +1,14 @@
--- `output::bytes::write32` meets its contract. Assumes nothing.
-use native.Mathlib.Omega.{arith}
-use Rattle.output.proofs.Writing.{stored32}
+use mathlib.Core.List.{◌++◌}
+use mathlib.Core.Path.{refl, ap, ◌∙◌}
+use Prim.Native.Nat.{◌+◌}
+use lib.ListN.{drop, take}
+use Rattle.std.specs.Int.{to_le_bytes}
+use Rattle.std.proofs.Common.{w32}
+use Rattle.output.proofs.Writing.{stored_part, bytes32}
 use Rattle.output.proofs.bytes.write32.Goals as goal
 
 pub returns : goal.returns
 returns c =
-    stored32 c.args.out.now c.write16.new.out c.write16-2.new.out c.args.at c.args.n (omega (arith, c.requires)) c.write16.ensures c.write16-2.ensures
+    let out = c.args.out.now in
+    let at = c.args.at in
+    stored_part out c.copy_from_slice.new.self (to_le_bytes w32 c.args.n) at 4 (c.copy_from_slice.ensures.after ∙ c.to_le_bytes.ensures) refl ∙ ap (λ k. take at out ++ k) (bytes32 c.args.n (drop (at + 4) out))

@@ -26,8 +26,9 @@ use Rattle.report.proofs.Leaders.{drop_element}
 use Rattle.report.specs.Leading.{angled_after}
 use Rattle.report.specs.Removed.{Listed, fallen_at, is_repeated, lines_of, listed_of}
 use Rattle.report.specs.Sentence.{sentence_text}
-use Rattle.text.proofs.Fill.{emitted-append, emitted-nothing, emitted-same}
-use Rattle.text.specs.Fill.{Emitted}
+use Rattle.text.proofs.Written.{both, written-nothing, same}
+use Rattle.text.specs.Written.{written}
+use Rattle.text.specs.declared.writer.Writer.{Writer}
 use Rattle.meaning.specs.Report.{removed_line, join, angled}
 use Rattle.program.proofs.Own.{sentences-counted}
 use Rattle.meaning.specs.Lists.{any, firsts, select}
@@ -149,50 +150,50 @@ lines-append g [] m = refl
 lines-append {A} {B} g (x ∷ l) m = ap (λ (t : List B). g x ++ t) (lines-append g l m) ∙ sym (append_assoc (g x) (flat_map g l) (flat_map g m))
 
 module _ (w : Program) (fell : ℕ → ℕ) (n : ℕ) where
-  pub listed_same : {l m : List Fallen} {s bytes : List ℕ} {at count after counted : ℕ} → l ≡ m → Listed w fell n l s at count bytes after counted → Listed w fell n m s at count bytes after counted
-  listed_same {l} {m} {s} {bytes} {at} {count} {after} {counted} e h = subst (λ (k : List Fallen). Listed w fell n k s at count bytes after counted) e h
+  pub listed_same : {l m : List Fallen} {s d : Writer} {count counted : ℕ} → l ≡ m → Listed w fell n l s count d counted → Listed w fell n m s count d counted
+  listed_same {l} {m} {s} {d} {count} {counted} e h = subst (λ (k : List Fallen). Listed w fell n k s count d counted) e h
 
-  pub listed-nothing : (s : List ℕ) (at count : ℕ) → Listed w fell n [] s at count s at count
+  pub listed-nothing : (s : Writer) (count : ℕ) → Listed w fell n [] s count s count
   unfolding lines_of listed_of select flat_map
-  listed-nothing s at count = record { text = emitted-nothing s at; told = omega arith }
+  listed-nothing s count = record { text = written-nothing s; told = omega arith }
 
-  pub listed-append : (l m : List Fallen) {s b d : List ℕ} {p c r k q j : ℕ} → Listed w fell n l s p c b r k → Listed w fell n m b r k d q j → Listed w fell n (l ++ m) s p c d q j
+  pub listed-append : (l m : List Fallen) {s b d : Writer} {c k j : ℕ} → Listed w fell n l s c b k → Listed w fell n m b k d j → Listed w fell n (l ++ m) s c d j
   unfolding lines_of listed_of
-  listed-append l m e f =
+  listed-append l m {s} e f =
       let z = select-append (λ x. not (is_repeated w fell n x)) l m in
       record {
         text =
-            emitted-same (sym (ap (λ (x : List Fallen). flat_map removed_line (map (removed_of w fell) x)) z
+            same s (sym (ap (λ (x : List Fallen). flat_map removed_line (map (removed_of w fell) x)) z
             ∙ ap (flat_map removed_line) (map-append (removed_of w fell) (select (λ x. not (is_repeated w fell n x)) l) (select (λ x. not (is_repeated w fell n x)) m))
             ∙ lines-append removed_line (map (removed_of w fell) (select (λ x. not (is_repeated w fell n x)) l)) (map (removed_of w fell) (select (λ x. not (is_repeated w fell n x)) m))))
-            (emitted-append (lines_of w fell n l) (lines_of w fell n m) e.text f.text);
+            (both s (lines_of w fell n l) (lines_of w fell n m) e.text f.text);
         told = omega (arith, e.told, f.told, ap length z, length-append (select (λ x. not (is_repeated w fell n x)) l) (select (λ x. not (is_repeated w fell n x)) m));
       }
 
-  module _ (r : ℕ) (x : Function) (s : ℕ) (y : Sentence) (out : List ℕ) (at count : ℕ) where
+  module _ (r : ℕ) (x : Function) (s : ℕ) (y : Sentence) (out : Writer) (count : ℕ) where
     abbrev fallen : Fallen
     fallen = record { round = r; function = x; number = s; sentence = y }
 
-    pub listed_not : (fell s ≡ r → ⊥) → Listed w fell n (fallen_at fell r x s y) out at count out at count
+    pub listed_not : (fell s ≡ r → ⊥) → Listed w fell n (fallen_at fell r x s y) out count out count
     unfolding fallen_at
-    listed_not h = listed_same (sym (ap (λ (t : Bool). cond t (fallen ∷ []) []) (ne_eqb (fell s) r h))) (listed-nothing out at count)
+    listed_not h = listed_same (sym (ap (λ (t : Bool). cond t (fallen ∷ []) []) (ne_eqb (fell s) r h))) (listed-nothing out count)
 
     listed-one : fell s ≡ r → (t : Bool) → is_repeated w fell n fallen ≡ t → listed_of w fell n (fallen_at fell r x s y) ≡ cond (not t) (fallen ∷ []) []
     unfolding listed_of fallen_at select
     listed-one e t g = ap (λ (v : Bool). select (λ z. not (is_repeated w fell n z)) (cond v (fallen ∷ []) [])) (eq-eqb (fell s) r e) ∙ ap (λ (v : Bool). cond (not v) (fallen ∷ []) []) g
 
-    pub listed-repeat : fell s ≡ r → is_repeated w fell n fallen ≡ true → Listed w fell n (fallen_at fell r x s y) out at count out at count
+    pub listed-repeat : fell s ≡ r → is_repeated w fell n fallen ≡ true → Listed w fell n (fallen_at fell r x s y) out count out count
     unfolding lines_of flat_map
     listed-repeat e g =
         let z = listed-one e true g in
-        record { text = emitted-same (sym (ap (λ (l : List Fallen). flat_map removed_line (map (removed_of w fell) l)) z)) (emitted-nothing out at); told = omega (arith, ap length z) }
+        record { text = same out (sym (ap (λ (l : List Fallen). flat_map removed_line (map (removed_of w fell) l)) z)) (written-nothing out); told = omega (arith, ap length z) }
 
-    pub listed_line : fell s ≡ r → is_repeated w fell n fallen ≡ false → {bytes : List ℕ} {after : ℕ} → Emitted out at (removed_line (removed_of w fell fallen)) after bytes → Listed w fell n (fallen_at fell r x s y) out at count bytes after (count + 1)
+    pub listed_line : fell s ≡ r → is_repeated w fell n fallen ≡ false → {d : Writer} → d ≡ written out (removed_line (removed_of w fell fallen)) → Listed w fell n (fallen_at fell r x s y) out count d (count + 1)
     unfolding lines_of flat_map
     listed_line e g h =
         let z = listed-one e false g in
         record {
-          text = emitted-same (sym (append-nil (removed_line (removed_of w fell fallen))) ∙ sym (ap (λ (l : List Fallen). flat_map removed_line (map (removed_of w fell) l)) z)) h;
+          text = same out (sym (append-nil (removed_line (removed_of w fell fallen))) ∙ sym (ap (λ (l : List Fallen). flat_map removed_line (map (removed_of w fell) l)) z)) h;
           told = omega (arith, ap length z);
         }
 
@@ -261,55 +262,55 @@ module _ (w : Program) (fell : ℕ → ℕ) (n r : ℕ) where
   abbrev pub rest_rounds : List Fallen
   rest_rounds = fallen_from w fell r (suc n - r)
 
-  module _ {out d : List ℕ} {p c a j : ℕ} where
-    pub sentences-start : (f : ℕ) (x : Function) (s : ℕ) → s ≡ sentences_before f w.functions → Listed w fell n (rest_of f x s) out p c d a j → Listed w fell n (fallen_of fell r x (sentences_before f w.functions) x.sentences) out p c d a j
+  module _ {out d : Writer} {c j : ℕ} where
+    pub sentences-start : (f : ℕ) (x : Function) (s : ℕ) → s ≡ sentences_before f w.functions → Listed w fell n (rest_of f x s) out c d j → Listed w fell n (fallen_of fell r x (sentences_before f w.functions) x.sentences) out c d j
     sentences-start f x s e h =
         let z : s - sentences_before f w.functions ≡ 0 = omega (arith, e) in
         listed_same w fell n (ap₂ (λ (u v : ℕ). fallen_rest fell r x u (drop v (sentence_list x.sentences))) e z ∙ sym (fallen_rest_lem fell r x (sentences_before f w.functions) x.sentences)) h
 
-    pub sentences_step : (f : ℕ) (x : Function) (s : ℕ) (y : Sentence) {b : List ℕ} {q k : ℕ} → Owns w f x s y → Listed w fell n (fallen_at fell r x s y) out p c b q k → Listed w fell n (rest_of f x (s + 1)) b q k d a j → Listed w fell n (rest_of f x s) out p c d a j
-    sentences_step f x s y {b} {q} {k} o h g =
+    pub sentences_step : (f : ℕ) (x : Function) (s : ℕ) (y : Sentence) {b : Writer} {k : ℕ} → Owns w f x s y → Listed w fell n (fallen_at fell r x s y) out c b k → Listed w fell n (rest_of f x (s + 1)) b k d j → Listed w fell n (rest_of f x s) out c d j
+    sentences_step f x s y {b} {k} o h g =
         let z : suc (s - sentences_before f w.functions) ≡ s + 1 - sentences_before f w.functions = omega (arith, o.from) in
         let v : suc s ≡ s + 1 = omega arith in
         listed_same w fell n (sym (rest-next fell r x (sentence_list x.sentences) s (s - sentences_before f w.functions) y (owned_element w f x s y o)))
         (listed-append w fell n (fallen_at fell r x s y) (fallen_rest fell r x (suc s) (drop (suc (s - sentences_before f w.functions)) (sentence_list x.sentences))) h
         (listed_same w fell n (sym (ap₂ (λ (t u : ℕ). fallen_rest fell r x t (drop u (sentence_list x.sentences))) v z)) g))
 
-    pub functions_step : (f : ℕ) (x : Function) {b : List ℕ} {q k : ℕ} → get_elem? w.functions f ≡ some x → Listed w fell n (fallen_of fell r x (sentences_before f w.functions) x.sentences) out p c b q k → Listed w fell n (rest_from (f + 1)) b q k d a j → Listed w fell n (rest_from f) out p c d a j
-    functions_step f x {b} {q} {k} e h g =
+    pub functions_step : (f : ℕ) (x : Function) {b : Writer} {k : ℕ} → get_elem? w.functions f ≡ some x → Listed w fell n (fallen_of fell r x (sentences_before f w.functions) x.sentences) out c b k → Listed w fell n (rest_from (f + 1)) b k d j → Listed w fell n (rest_from f) out c d j
+    functions_step f x {b} {k} e h g =
         let v : suc f ≡ f + 1 = omega arith in
         listed_same w fell n (sym (functions-next fell r w.functions f x e))
         (listed-append w fell n (fallen_of fell r x (sentences_before f w.functions) x.sentences) (fallen_in fell r (sentences_before (suc f) w.functions) (drop (suc f) w.functions)) h
         (listed_same w fell n (sym (ap (λ (t : ℕ). rest_from t) v)) g))
 
-  pub sentences-end : (f : ℕ) (x : Function) (s : ℕ) → get_elem? w.functions f ≡ some x → sentences_before (suc f) w.functions ≤ s → (out : List ℕ) (p c : ℕ) → Listed w fell n (rest_of f x s) out p c out p c
-  sentences-end f x s e h out p c =
-      listed_same w fell n (sym (rest_end fell r x (sentence_list x.sentences) s (s - sentences_before f w.functions) (omega (arith, h, before-next w.functions f x e, sentences-counted x.sentences)))) (listed-nothing w fell n out p c)
+  pub sentences-end : (f : ℕ) (x : Function) (s : ℕ) → get_elem? w.functions f ≡ some x → sentences_before (suc f) w.functions ≤ s → (out : Writer) (c : ℕ) → Listed w fell n (rest_of f x s) out c out c
+  sentences-end f x s e h out c =
+      listed_same w fell n (sym (rest_end fell r x (sentence_list x.sentences) s (s - sentences_before f w.functions) (omega (arith, h, before-next w.functions f x e, sentences-counted x.sentences)))) (listed-nothing w fell n out c)
 
-  pub functions-last : (f : ℕ) → length w.functions ≤ f → (out : List ℕ) (p c : ℕ) → Listed w fell n (rest_from f) out p c out p c
-  functions-last f h out p c = listed_same w fell n (sym (functions-end fell r w.functions f (sentences_before f w.functions) h)) (listed-nothing w fell n out p c)
+  pub functions-last : (f : ℕ) → length w.functions ≤ f → (out : Writer) (c : ℕ) → Listed w fell n (rest_from f) out c out c
+  functions-last f h out c = listed_same w fell n (sym (functions-end fell r w.functions f (sentences_before f w.functions) h)) (listed-nothing w fell n out c)
 
-  pub functions-start : {out d : List ℕ} {p c a j : ℕ} → Listed w fell n (rest_from 0) out p c d a j → Listed w fell n (fallen_in fell r 0 w.functions) out p c d a j
+  pub functions-start : {out d : Writer} {c j : ℕ} → Listed w fell n (rest_from 0) out c d j → Listed w fell n (fallen_in fell r 0 w.functions) out c d j
   unfolding sentences_before
   functions-start h = h
 
 module _ (w : Program) (fell : ℕ → ℕ) (n : ℕ) where
-  pub rounds-start : {out d : List ℕ} {p c a j : ℕ} → Listed w fell n (rest_rounds w fell n 1) out p c d a j → Listed w fell n (fallen_from w fell 1 n) out p c d a j
+  pub rounds-start : {out d : Writer} {c j : ℕ} → Listed w fell n (rest_rounds w fell n 1) out c d j → Listed w fell n (fallen_from w fell 1 n) out c d j
   rounds-start h = let e : suc n - 1 ≡ n = omega arith in listed_same w fell n (ap (fallen_from w fell 1) e) h
 
-  pub rounds_step : (r : ℕ) → r ≤ n → {out b d : List ℕ} {p c q k a j : ℕ} → Listed w fell n (fallen_in fell r 0 w.functions) out p c b q k → Listed w fell n (rest_rounds w fell n (r + 1)) b q k d a j → Listed w fell n (rest_rounds w fell n r) out p c d a j
+  pub rounds_step : (r : ℕ) → r ≤ n → {out b d : Writer} {c k j : ℕ} → Listed w fell n (fallen_in fell r 0 w.functions) out c b k → Listed w fell n (rest_rounds w fell n (r + 1)) b k d j → Listed w fell n (rest_rounds w fell n r) out c d j
   rounds_step r l h g =
       let v : suc r ≡ r + 1 = omega arith in
       listed_same w fell n (sym (rounds-next w fell n r l))
       (listed-append w fell n (fallen_in fell r 0 w.functions) (fallen_from w fell (suc r) (suc n - suc r)) h (listed_same w fell n (sym (ap (λ (t : ℕ). rest_rounds w fell n t) v)) g))
 
-  pub rounds-last : (r : ℕ) → n < r → (out : List ℕ) (p c : ℕ) → Listed w fell n (rest_rounds w fell n r) out p c out p c
-  rounds-last r h out p c = listed_same w fell n (sym (rounds-end w fell n r h)) (listed-nothing w fell n out p c)
+  pub rounds-last : (r : ℕ) → n < r → (out : Writer) (c : ℕ) → Listed w fell n (rest_rounds w fell n r) out c out c
+  rounds-last r h out c = listed_same w fell n (sym (rounds-end w fell n r h)) (listed-nothing w fell n out c)
 
   -- The whole list, as the report has it.
-  pub listed-firsts : {out d : List ℕ} {p c a j : ℕ} → Listed w fell n (fallen_from w fell 1 n) out p c d a j
-      → Emitted out p (flat_map removed_line (map (removed_of w fell) (firsts same_fallen (fallen_from w fell 1 n)))) a d × (j ≡ c + length (firsts same_fallen (fallen_from w fell 1 n)))
+  pub listed-firsts : {out d : Writer} {c j : ℕ} → Listed w fell n (fallen_from w fell 1 n) out c d j
+      → (d ≡ written out (flat_map removed_line (map (removed_of w fell) (firsts same_fallen (fallen_from w fell 1 n))))) × (j ≡ c + length (firsts same_fallen (fallen_from w fell 1 n)))
   unfolding lines_of listed_of
-  listed-firsts h =
+  listed-firsts {out} h =
       let z = sym (first_fallen w fell n) in
-      (emitted-same (ap (λ (l : List Fallen). flat_map removed_line (map (removed_of w fell) l)) z) h.text, omega (arith, h.told, ap length z))
+      (same out (ap (λ (l : List Fallen). flat_map removed_line (map (removed_of w fell) l)) z) h.text, omega (arith, h.told, ap length z))

@@ -1,5 +1,5 @@
 -- Notes of sites: what a turn of the walk along a list leaves, and that the notes for one name keep those for another.
-use Prim.Native.Nat.{ℕ, zero, suc, ◌+◌, ◌%◌, ◌<◌, ◌≤◌}
+use Prim.Native.Nat.{ℕ, max, zero, suc, ◌+◌, ◌%◌, ◌<◌, ◌≤◌}
 use native.Mathlib.Omega.{arith}
 use mathlib.Core.Path.{◌≡◌, refl, sym, ap, ap₂, subst, fun_ext, ◌∙◌}
 use mathlib.Core.Bool.{Bool, true, false, ◌&&◌, ◌||◌, not, or-true, and-eq-true_iff, true≢false}
@@ -8,6 +8,7 @@ use mathlib.Core.Option.{some}
 use borrow.Author.Tests.{ltb-true, ltb-false, lt-ltb, le-ltb, leb-true, leb-false, le-leb, eqb-true, eqb-false, ne_eqb}
 use lib.Dec.{eqb, leb, ltb}
 use lib.ListN.{length, get_or, get_elem?, set, take, drop, length-set}
+use Rattle.std.proofs.Math.Nat.{le-max_left, le-max_right, max-le}
 use lib.Seq.{get_or-set_same, get_or-set_other}
 use Rattle.program.specs.Syntax.{Name, Function, Program}
 use Rattle.patterns.specs.Configuration.{same_configuration}
@@ -66,20 +67,36 @@ module _ (a b r : ℕ) where
   unfolding stands_in
   later_second_never e = sym (ap (λ (n : ℕ). stands_in a r || stands_in n r) e ∙ or-true (stands_in a r))
 
-  pub later_second : (a ≡ 0 → ⊥) → a < b → stands_in b r ≡ (stands_in a r || stands_in b r)
+  later_second : (a ≡ 0 → ⊥) → a < b → stands_in b r ≡ (stands_in a r || stands_in b r)
   later_second h l = by (stands_in a r) (stands_in b r) (stands-later a b r h (omega arith))
     where
       by : (s t : Bool) → (s ≡ true → t ≡ true) → t ≡ (s || t)
       by true t g = g refl
       by false t g = refl
 
-  pub later_first : (b ≡ 0 → ⊥) → b ≤ a → stands_in a r ≡ (stands_in a r || stands_in b r)
+  later_first : (b ≡ 0 → ⊥) → b ≤ a → stands_in a r ≡ (stands_in a r || stands_in b r)
   later_first h l = by (stands_in a r) (stands_in b r) (stands-later b a r h l)
     where
       by : (s t : Bool) → (t ≡ true → s ≡ true) → s ≡ (s || t)
       by true t g = refl
       by false true g = g refl
       by false false g = refl
+
+  -- Of two that fell, the later.
+  pub later_most : (a ≡ 0 → ⊥) → (b ≡ 0 → ⊥) → stands_in (max a b) r ≡ (stands_in a r || stands_in b r)
+  later_most g h = by (ltb a b) refl
+    where
+      by : (t : Bool) → ltb a b ≡ t → stands_in (max a b) r ≡ (stands_in a r || stands_in b r)
+      by true e =
+          let l = ltb-true a b e in
+          let m : max a b ≤ b = max-le (omega (arith, l)) (omega arith) in
+          let q : max a b ≡ b = omega (arith, m, le-max_right a b) in
+          ap (λ (v : ℕ). stands_in v r) q ∙ later_second g l
+      by false e =
+          let l = ltb-false a b e in
+          let m : max a b ≤ a = max-le (omega arith) l in
+          let q : max a b ≡ a = omega (arith, m, le-max_left a b) in
+          ap (λ (v : ℕ). stands_in v r) q ∙ later_first h l
 
 -- ---- the notes of one site, where they begin at n
 

@@ -1,18 +1,22 @@
 -- A list told candidate by candidate.
+use Rattle.std.specs.Prelude.{Option, None, Some}
+use Rattle.std.proofs.lemmas.Option.{none-some, same_Some}
+use Rattle.report.specs.declared.listing.Candidate.{Candidate}
 use Prim.Native.Nat.{ℕ, zero, suc, ◌+◌, ◌<◌, ◌≤◌}
 use native.Mathlib.Omega.{arith}
 use mathlib.Core.Path.{◌≡◌, refl, sym, ap, ap₂, subst, ◌∙◌}
 use mathlib.Core.Bool.{Bool, true, false, cond}
 use mathlib.Core.List.{List, [], ◌∷◌, ◌++◌, flat_map, append_assoc, append-nil}
-use mathlib.Core.Option.{none, some}
+use mathlib.Core.Option.{some}
 use lib.ListN.{length, get_elem?, take, length-append}
 use Rattle.meaning.specs.Lists.{any}
 use Rattle.index.proofs.First.{element_same}
 use Rattle.meaning.specs.Text.{Text}
 use Rattle.told.specs.ToldReport.{judged_only, runs_after}
-use Rattle.text.specs.Fill.{Emitted}
-use Rattle.text.proofs.Fill.{emitted-nothing, emitted-append, emitted-same}
-use Rattle.report.specs.Listing.{last_of, each_from, Listing}
+use Rattle.text.specs.declared.writer.Writer.{Writer}
+use Rattle.text.specs.Written.{written}
+use Rattle.text.proofs.Written.{written-nothing, both, same as of_same}
+use Rattle.report.specs.Listing.{last_of, each_from, Listing, LastIn}
 
 -- ---- runs
 
@@ -37,43 +41,43 @@ flat_append f [] m = refl
 flat_append f (x ∷ l) m = ap (λ (k : List _). f x ++ k) (flat_append f l m) ∙ sym (append_assoc (f x) (flat_map f l) (flat_map f m))
 
 module _ {A : Type 0} (line : A → Text) (same : A → A → Bool) where
-  pub listing-nothing : (last : List A) (s : List ℕ) (at count : ℕ) → Listing line same last [] last s at count s at count
+  pub listing-nothing : (last : List A) (s : Writer) (count : ℕ) → Listing line same last [] last s count s count
   unfolding runs_after last_of flat_map
-  listing-nothing last s at count = record { text = emitted-nothing s at; told = omega arith; is = refl }
+  listing-nothing last s count = record { text = written-nothing s; told = omega arith; is = refl }
 
-  pub listing-append : (last l m : List A) {next after : List A} {s b d : List ℕ} {at count r n q k : ℕ} → Listing line same last l next s at count b r n → Listing line same next m after b r n d q k
-      → Listing line same last (l ++ m) after s at count d q k
-  listing-append last l m {next} {after} x y =
+  pub listing-append : (last l m : List A) {next after : List A} {s b d : Writer} {count n k : ℕ} → Listing line same last l next s count b n → Listing line same next m after b n d k
+      → Listing line same last (l ++ m) after s count d k
+  listing-append last l m {next} {after} {s} {b} x y =
       let e : runs_after same next m ≡ runs_after same (last_of last l) m = ap (λ (z : List A). runs_after same z m) x.is in
       record {
         text =
-            emitted-same (sym (ap (flat_map line) (runs_append same l m last) ∙ flat_append line (runs_after same last l) (runs_after same (last_of last l) m)))
-            (emitted-append (flat_map line (runs_after same last l)) (flat_map line (runs_after same (last_of last l) m)) x.text (emitted-same (ap (flat_map line) e) y.text));
+            of_same s (sym (ap (flat_map line) (runs_append same l m last) ∙ flat_append line (runs_after same last l) (runs_after same (last_of last l) m)))
+            (both s (flat_map line (runs_after same last l)) (flat_map line (runs_after same (last_of last l) m)) x.text (of_same b (ap (flat_map line) e) y.text));
         told = omega (arith, x.told, y.told, ap length e, ap length (runs_append same l m last), length-append (runs_after same last l) (runs_after same (last_of last l) m));
         is = y.is ∙ (ap (λ (z : List A). last_of z m) x.is ∙ sym (last-append l m last));
       }
 
-  pub listing-same : {last l m next : List A} {s b : List ℕ} {at count r n : ℕ} → l ≡ m → Listing line same last l next s at count b r n → Listing line same last m next s at count b r n
-  listing-same {last} {l} {m} {next} {s} {b} {at} {count} {r} {n} e x = subst (λ (k : List A). Listing line same last k next s at count b r n) e x
+  pub listing-same : {last l m next : List A} {s b : Writer} {count n : ℕ} → l ≡ m → Listing line same last l next s count b n → Listing line same last m next s count b n
+  listing-same {last} {l} {m} {next} {s} {b} {count} {n} e x = subst (λ (k : List A). Listing line same last k next s count b n) e x
 
   -- One candidate, which repeats the last or does not.
   module _ (last next : List A) (z : A) (e : next ≡ z ∷ []) where
-    pub listing-repeat : any (λ y. same y z) last ≡ true → (s : List ℕ) (at count : ℕ) → Listing line same last (z ∷ []) next s at count s at count
+    pub listing-repeat : any (λ y. same y z) last ≡ true → (s : Writer) (count : ℕ) → Listing line same last (z ∷ []) next s count s count
     unfolding runs_after last_of flat_map
-    listing-repeat h s at count =
+    listing-repeat h s count =
         let f : runs_after same last (z ∷ []) ≡ [] = ap (λ (t : Bool). cond t [] (z ∷ [])) h in
         record {
-          text = emitted-same (sym (ap (flat_map line) f)) (emitted-nothing s at);
+          text = of_same s (sym (ap (flat_map line) f)) (written-nothing s);
           told = omega (arith, ap length f);
           is = e;
         }
 
-    pub listing_new : any (λ y. same y z) last ≡ false → (s b : List ℕ) (at count r : ℕ) → Emitted s at (line z) r b → Listing line same last (z ∷ []) next s at count b r (count + 1)
+    pub listing_new : any (λ y. same y z) last ≡ false → (s b : Writer) (count : ℕ) → b ≡ written s (line z) → Listing line same last (z ∷ []) next s count b (count + 1)
     unfolding runs_after last_of flat_map
-    listing_new h s b at count r x =
+    listing_new h s b count x =
         let f : runs_after same last (z ∷ []) ≡ z ∷ [] = ap (λ (t : Bool). cond t [] (z ∷ [])) h in
         record {
-          text = emitted-same (sym (ap (flat_map line) f ∙ append-nil (line z))) x;
+          text = of_same s (sym (ap (flat_map line) f ∙ append-nil (line z))) x;
           told = omega (arith, ap length f);
           is = e;
         }
@@ -117,15 +121,6 @@ module _ {A C : Type 0} (each : ℕ → A → List C) where
   each_over (y ∷ l) (suc t) (suc n) i h f =
       ap (λ (m : List C). each i y ++ m) (each_over l t n (suc i) (omega arith) (λ j x a b e. let z : suc i + j ≡ i + suc j = omega arith in ap (λ (q : ℕ). each q x) z ∙ f (suc j) x (omega arith) (omega arith) e))
 
-pub no_element : {A : Type 0} (l : List A) (i : ℕ) → length l ≤ i → get_elem? l i ≡ none
-no_element [] i h = refl
-no_element (x ∷ l) zero h = absurd (omega arith)
-no_element (x ∷ l) (suc i) h = no_element l i (omega arith)
-
--- The list is told after another last one that is the same.
-pub listing-from : {A : Type 0} (line : A → Text) (same : A → A → Bool) {last first l next : List A} {s b : List ℕ} {at count r n : ℕ} → last ≡ first → Listing line same last l next s at count b r n → Listing line same first l next s at count b r n
-listing-from {A} line same {last} {first} {l} {next} {s} {b} {at} {count} {r} {n} e x = subst (λ (k : List A). Listing line same k l next s at count b r n) e x
-
 -- Functions that are not judged give nothing.
 pub only_judged : {A : Type 0} (l : List A) {t : Bool} → t ≡ true → l ≡ judged_only t l
 unfolding judged_only
@@ -134,3 +129,16 @@ only_judged l e = sym (ap (λ (u : Bool). judged_only u l) e)
 pub none_judged : {A : Type 0} (l : List A) {t : Bool} → t ≡ false → [] ≡ judged_only t l
 unfolding judged_only
 none_judged l e = sym (ap (λ (u : Bool). judged_only u l) e)
+
+-- ---- the candidate that was told last
+
+pub last-none : (f n : ℕ) → LastIn None f n
+last-none f n c e = absurd (none-some c e)
+
+pub last_here : (f i n : ℕ) → i < n → LastIn (Some (record { function = f; item = i })) f n
+last_here f i n h c e =
+    let z : Candidate = record { function = f; item = i } in
+    subst (λ (k : Candidate). (k.function ≤ f) × (k.item < n)) (same_Some z c e) (omega arith, h)
+
+pub last_later : (last : Option Candidate) (f g n : ℕ) → f ≤ g → LastIn last f n → LastIn last g n
+last_later last f g n h p c e = let q = p c e in (omega (arith, q.0, h), q.1)

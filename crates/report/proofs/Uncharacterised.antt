@@ -2,7 +2,7 @@
 use Prim.Native.Nat.{ℕ, zero, suc, ◌+◌, ◌≤◌, ◌<◌}
 use native.Mathlib.Omega.{arith}
 use native.Mathlib.Numerals.{add-one}
-use mathlib.Core.Path.{◌≡◌, refl, sym, ap, subst, ◌∙◌}
+use mathlib.Core.Path.{◌≡◌, refl, sym, ap, ◌∙◌}
 use mathlib.Core.Bool.{Bool, true, false, false≢true, ◌&&◌, ◌||◌, not, cond, or-true}
 use mathlib.Core.List.{List, [], ◌∷◌, ◌++◌, append_assoc, append-nil, flatten}
 use mathlib.Core.Option.{some}
@@ -25,9 +25,10 @@ use Rattle.cleaning.specs.Indexed.{SomeBody}
 use Rattle.told.specs.ToldReport.{uncharacterised_names}
 use Rattle.told.proofs.ReportLists.{names_new}
 use Rattle.index.specs.declared.Plan.{Plan}
-use Rattle.text.specs.Fill.{Emitted}
+use Rattle.text.specs.declared.writer.Writer.{Writer}
+use Rattle.text.specs.Written.{written}
 use Rattle.meaning.specs.Report.{join, uncharacterised_line}
-use Rattle.text.proofs.Fill.{emitted-append, emitted-same}
+use Rattle.text.proofs.Written.{both, same}
 use Rattle.report.specs.Emitting.{SomeReadable}
 use Rattle.report.specs.Names.{is_uncharacterised, is_newly_uncharacterised, lead, uncharacterised_text, uncharacterised_count, line_end}
 
@@ -194,11 +195,11 @@ unfolding names_line join lead is_nil
 names_snoc [] x = refl
 names_snoc (y ∷ l) x = ap (λ (t : Text). ascii "uncharacterised: " ++ t) (join_snoc (ascii ", ") l y x) ∙ sym (append_assoc (ascii "uncharacterised: ") (join (ascii ", ") (y ∷ l)) (ascii ", " ++ x))
 
--- The line has a name if its place has moved.
-first-place : (l : List Name) (at place : ℕ) → place ≡ at + length (names_line l) → eqb place at ≡ is_nil l
-unfolding names_line is_nil ascii
-first-place [] at place e = eq-eqb place at (omega (arith, e))
-first-place (x ∷ l) at place e = ne_eqb place at (λ z. absurd (omega (arith, e, z, length-append (ascii "uncharacterised: ") (join (ascii ", ") (x ∷ l)))))
+-- The line has a name if one was counted.
+first_count : (l : List Name) (n : ℕ) → n ≡ length l → eqb n 0 ≡ is_nil l
+unfolding is_nil
+first_count [] n e = eq-eqb n 0 e
+first_count (x ∷ l) n e = ne_eqb n 0 (λ z. absurd (omega (arith, e, z)))
 
 names-end : (l : List Name) → names_line l ++ line_end (is_nil l) ≡ uncharacterised_line l
 unfolding names_line is_nil line_end uncharacterised_line flatten
@@ -224,19 +225,19 @@ pub line_start : (root : ℕ) (w : Program) → [] ≡ line_to root w 0
 unfolding uncharacterised_names new_after names_line
 line_start root w = refl
 
-pub line_step : (root : ℕ) (w : Program) (f : ℕ) (x : Function) → get_elem? w.functions f ≡ some x → {s b d : List ℕ} {at place r : ℕ}
-    → Emitted s at (line_to root w f) place b → Emitted b place (uncharacterised_text root w f x (eqb place at)) r d → Emitted s at (line_to root w (f + 1)) r d
-line_step root w f x e {s} {b} {d} {at} {place} {r} g h =
-    emitted-same (line_next root w f x e)
-    (emitted-append (line_to root w f) (uncharacterised_text root w f x (is_nil (new_after same_name [] (names_to root w f)))) g
-    (subst (λ (t : Bool). Emitted b place (uncharacterised_text root w f x t) r d) (first-place (new_after same_name [] (names_to root w f)) at place g.after) h))
+pub line_step : (root : ℕ) (w : Program) (f : ℕ) (x : Function) → get_elem? w.functions f ≡ some x → (n : ℕ) → n ≡ length (new_after same_name [] (names_to root w f)) → (s : Writer) {b d : Writer}
+    → b ≡ written s (line_to root w f) → d ≡ written b (uncharacterised_text root w f x (eqb n 0)) → d ≡ written s (line_to root w (f + 1))
+line_step root w f x e n k s {b} {d} g h =
+    same s (line_next root w f x e)
+    (both s (line_to root w f) (uncharacterised_text root w f x (is_nil (new_after same_name [] (names_to root w f)))) g
+    (same b (ap (uncharacterised_text root w f x) (first_count (new_after same_name [] (names_to root w f)) n k)) h))
 
-pub line_done : (root : ℕ) (w : Program) (f : ℕ) → length w.functions ≤ f → {s b d : List ℕ} {at place r : ℕ}
-    → Emitted s at (line_to root w f) place b → Emitted b place (line_end (eqb place at)) r d → Emitted s at (uncharacterised_line (firsts same_name (uncharacterised_names root (sites_of w) 0 w.functions))) r d
-line_done root w f l {s} {b} {d} {at} {place} {r} g h =
-    emitted-same (names-end (new_after same_name [] (names_to root w f)) ∙ ap uncharacterised_line (ap (λ (fs : List Function). new_after same_name [] (uncharacterised_names root (sites_of w) 0 fs)) (take_all f w.functions l) ∙ sym (names_new (uncharacterised_names root (sites_of w) 0 w.functions))))
-    (emitted-append (line_to root w f) (line_end (is_nil (new_after same_name [] (names_to root w f)))) g
-    (subst (λ (t : Bool). Emitted b place (line_end t) r d) (first-place (new_after same_name [] (names_to root w f)) at place g.after) h))
+pub line_done : (root : ℕ) (w : Program) (f : ℕ) → length w.functions ≤ f → (n : ℕ) → n ≡ length (new_after same_name [] (names_to root w f)) → (s : Writer) {b d : Writer}
+    → b ≡ written s (line_to root w f) → d ≡ written b (line_end (eqb n 0)) → d ≡ written s (uncharacterised_line (firsts same_name (uncharacterised_names root (sites_of w) 0 w.functions)))
+line_done root w f l n k s {b} {d} g h =
+    same s (names-end (new_after same_name [] (names_to root w f)) ∙ ap uncharacterised_line (ap (λ (fs : List Function). new_after same_name [] (uncharacterised_names root (sites_of w) 0 fs)) (take_all f w.functions l) ∙ sym (names_new (uncharacterised_names root (sites_of w) 0 w.functions))))
+    (both s (line_to root w f) (line_end (is_nil (new_after same_name [] (names_to root w f)))) g
+    (same b (ap line_end (first_count (new_after same_name [] (names_to root w f)) n k)) h))
 
 -- How many names the line has then.
 abbrev pub count_to : ℕ → Program → ℕ → ℕ

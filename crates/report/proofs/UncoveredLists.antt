@@ -1,13 +1,15 @@
 -- The uncovered restrictions, as loops over functions and sites tell them.
+use Rattle.std.specs.Prelude.{Option, None, Some}
+use Rattle.report.specs.declared.listing.Candidate.{Candidate}
 use Prim.Native.Nat.{ℕ, zero, suc, ◌+◌, ◌-◌, ◌<◌, ◌≤◌}
 use native.Mathlib.Omega.{arith}
 use mathlib.Core.Path.{◌≡◌, refl, sym, ap, ap₂, ◌∙◌}
 use mathlib.Core.Bool.{Bool, true, false, ◌&&◌, not, cond, or-false, and-eq-true_iff}
 use mathlib.Core.List.{List, [], ◌∷◌, ◌++◌, map, flatten}
-use mathlib.Core.Option.{Option, none, some}
+use mathlib.Core.Option.{some}
 use borrow.Author.Tests.{ltb-true, ltb-false, eqb-true}
 use lib.Dec.{ltb, eqb}
-use lib.ListN.{length, get_elem?, take}
+use lib.ListN.{get_elem?, take}
 use Rattle.program.specs.Syntax.{Name, Terms, Sentences, empty, sentence, Function, Program}
 use Rattle.program.specs.Encode.{sentence_count}
 use Rattle.program.specs.Sentences.{Sentence, sentence_list, own_sentences}
@@ -37,39 +39,26 @@ use Rattle.report.specs.Leading.{is_leading, leading_from}
 use Rattle.report.specs.Listing.{each_from}
 use Rattle.report.specs.Uncovered.{uncovered_one, uncovered_some, last_uncovered, is_uncovered, uncovered_at}
 use Rattle.report.proofs.Leaders.{leading_restrictions}
-use Rattle.report.proofs.Telling.{no_element}
 use Rattle.report.proofs.Verdicts.{disjoint_same}
 
 -- ---- the last candidate
 
-pub last-is : (w : Program) (f i : ℕ) (x : Function) (y : Held) → get_elem? w.functions f ≡ some x → get_elem? (sites_of w) i ≡ some y → last_uncovered w f i ≡ uncovered_one x y ∷ []
+pub last-is : (w : Program) (f i : ℕ) (x : Function) (y : Held) → get_elem? w.functions f ≡ some x → get_elem? (sites_of w) i ≡ some y → last_uncovered w (Some (record { function = f; item = i })) ≡ uncovered_one x y ∷ []
 unfolding uncovered_some
 last-is w f i x y e g = ap₂ uncovered_some e g
 
-nothing-last : (x : Option Function) → uncovered_some x none ≡ []
-unfolding uncovered_some
-nothing-last (some x) = refl
-nothing-last none = refl
-
-pub last_none : (w : Program) (f i : ℕ) → length (sites_of w) ≤ i → last_uncovered w f i ≡ []
-last_none w f i h = ap (uncovered_some (get_elem? w.functions f)) (no_element (sites_of w) i h) ∙ nothing-last (get_elem? w.functions f)
-
 -- A candidate is held to the last one.
-module _ (w : Program) (g t : ℕ) (x : Function) (y : Held) where
-  pub repeats_none : length (sites_of w) ≤ t → false ≡ any (λ z. same_uncovered z (uncovered_one x y)) (last_uncovered w g t)
+module _ (w : Program) (last : Option Candidate) (x : Function) (y : Held) where
+  pub repeats_none : last ≡ None → false ≡ any (λ z. same_uncovered z (uncovered_one x y)) (last_uncovered w last)
   unfolding any
-  repeats_none h = sym (ap (any (λ z. same_uncovered z (uncovered_one x y))) (last_none w g t h))
+  repeats_none h = sym (ap (λ (o : Option Candidate). any (λ z. same_uncovered z (uncovered_one x y)) (last_uncovered w o)) h)
 
-  module _ (u : Function) (v : Held) (e : get_elem? w.functions g ≡ some u) (k : get_elem? (sites_of w) t ≡ some v) where
-    repeats_is : any (λ z. same_uncovered z (uncovered_one x y)) (last_uncovered w g t) ≡ (eq_bytes u.name x.name && eq_bytes (format_terms v.site.argument) (format_terms y.site.argument))
+  module _ (c : Candidate) (h : last ≡ Some c) (u : Function) (v : Held) (e : get_elem? w.functions c.function ≡ some u) (k : get_elem? (sites_of w) c.item ≡ some v) where
+    pub repeats_is : any (λ z. same_uncovered z (uncovered_one x y)) (last_uncovered w last) ≡ (eq_bytes u.name x.name && eq_bytes (format_terms v.site.argument) (format_terms y.site.argument))
     unfolding any same_uncovered uncovered_one
-    repeats_is = ap (any (λ z. same_uncovered z (uncovered_one x y))) (last-is w g t u v e k) ∙ or-false (eq_bytes u.name x.name && eq_bytes (format_terms v.site.argument) (format_terms y.site.argument))
-
-    pub repeats_other : eq_bytes u.name x.name ≡ false → false ≡ any (λ z. same_uncovered z (uncovered_one x y)) (last_uncovered w g t)
-    repeats_other h = sym (repeats_is ∙ ap (λ (a : Bool). a && eq_bytes (format_terms v.site.argument) (format_terms y.site.argument)) h)
-
-    pub repeats_text : eq_bytes u.name x.name ≡ true → eq_bytes (format_terms v.site.argument) (format_terms y.site.argument) ≡ any (λ z. same_uncovered z (uncovered_one x y)) (last_uncovered w g t)
-    repeats_text h = sym (repeats_is ∙ ap (λ (a : Bool). a && eq_bytes (format_terms v.site.argument) (format_terms y.site.argument)) h)
+    repeats_is =
+        ap (λ (o : Option Candidate). any (λ z. same_uncovered z (uncovered_one x y)) (last_uncovered w o)) h
+        ∙ (ap (any (λ z. same_uncovered z (uncovered_one x y))) (last-is w c.function c.item u v e k) ∙ or-false (eq_bytes u.name x.name && eq_bytes (format_terms v.site.argument) (format_terms y.site.argument)))
 
 -- Its line.
 pub uncovered-text : (x : Function) (y : Held) → 32 ∷ 32 ∷ (x.name ++ (32 ∷ 60 ∷ 45 ∷ 32 ∷ (format_terms y.site.argument ++ (10 ∷ [])))) ≡ uncovered_line (uncovered_one x y)

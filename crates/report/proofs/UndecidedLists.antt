@@ -1,11 +1,13 @@
 -- The undecided sentences, as loops over functions and sentences tell them.
-use Prim.Native.Nat.{ℕ, suc, ◌+◌, ◌≤◌}
+use Rattle.std.specs.Prelude.{Option, None, Some}
+use Rattle.report.specs.declared.listing.Candidate.{Candidate}
+use Prim.Native.Nat.{ℕ, suc, ◌+◌}
 use native.Mathlib.Omega.{arith}
 use mathlib.Core.Path.{◌≡◌, refl, sym, ap, ap₂, ◌∙◌}
 use mathlib.Core.Bool.{Bool, true, false, ◌&&◌, not, cond, or-false}
 use mathlib.Core.List.{List, [], ◌∷◌, ◌++◌, map, flatten, append_assoc}
-use mathlib.Core.Option.{Option, none, some}
-use lib.ListN.{length, get_elem?}
+use mathlib.Core.Option.{some}
+use lib.ListN.{get_elem?}
 use Rattle.program.specs.Syntax.{Sentences, empty, sentence, Function, Program}
 use Rattle.program.specs.Encode.{sentence_count}
 use Rattle.program.specs.Sentences.{Sentence, sentence_list, own_sentences}
@@ -23,38 +25,25 @@ use Rattle.report.specs.Listing.{each_from}
 use Rattle.report.specs.Sentence.{sentence_text}
 use Rattle.report.specs.Notes.{open_at}
 use Rattle.report.specs.Undecided.{undecided_one, undecided_some, last_undecided, undecided_at}
-use Rattle.report.proofs.Telling.{no_element}
 
 -- ---- the last candidate
 
-pub last-is : (w : Program) (f s : ℕ) (x : Function) (y : Sentence) → get_elem? w.functions f ≡ some x → get_elem? (own_sentences w.functions) s ≡ some y → last_undecided w f s ≡ undecided_one x y ∷ []
+pub last-is : (w : Program) (f s : ℕ) (x : Function) (y : Sentence) → get_elem? w.functions f ≡ some x → get_elem? (own_sentences w.functions) s ≡ some y → last_undecided w (Some (record { function = f; item = s })) ≡ undecided_one x y ∷ []
 unfolding undecided_some
 last-is w f s x y e g = ap₂ undecided_some e g
 
-nothing-last : (x : Option Function) → undecided_some x none ≡ []
-unfolding undecided_some
-nothing-last (some x) = refl
-nothing-last none = refl
-
-pub last_none : (w : Program) (f s : ℕ) → length (own_sentences w.functions) ≤ s → last_undecided w f s ≡ []
-last_none w f s h = ap (undecided_some (get_elem? w.functions f)) (no_element (own_sentences w.functions) s h) ∙ nothing-last (get_elem? w.functions f)
-
 -- A candidate is held to the last one.
-module _ (w : Program) (g t : ℕ) (x : Function) (y : Sentence) where
-  pub repeats_none : length (own_sentences w.functions) ≤ t → false ≡ any (λ z. same_undecided z (undecided_one x y)) (last_undecided w g t)
+module _ (w : Program) (last : Option Candidate) (x : Function) (y : Sentence) where
+  pub repeats_none : last ≡ None → false ≡ any (λ z. same_undecided z (undecided_one x y)) (last_undecided w last)
   unfolding any
-  repeats_none h = sym (ap (any (λ z. same_undecided z (undecided_one x y))) (last_none w g t h))
+  repeats_none h = sym (ap (λ (o : Option Candidate). any (λ z. same_undecided z (undecided_one x y)) (last_undecided w o)) h)
 
-  module _ (u : Function) (v : Sentence) (e : get_elem? w.functions g ≡ some u) (k : get_elem? (own_sentences w.functions) t ≡ some v) where
-    repeats_is : any (λ z. same_undecided z (undecided_one x y)) (last_undecided w g t) ≡ (eq_bytes u.name x.name && eq_bytes (format_terms v.pattern) (format_terms y.pattern))
+  module _ (c : Candidate) (h : last ≡ Some c) (u : Function) (v : Sentence) (e : get_elem? w.functions c.function ≡ some u) (k : get_elem? (own_sentences w.functions) c.item ≡ some v) where
+    pub repeats_is : any (λ z. same_undecided z (undecided_one x y)) (last_undecided w last) ≡ (eq_bytes u.name x.name && eq_bytes (format_terms v.pattern) (format_terms y.pattern))
     unfolding any same_undecided undecided_one
-    repeats_is = ap (any (λ z. same_undecided z (undecided_one x y))) (last-is w g t u v e k) ∙ or-false (eq_bytes u.name x.name && eq_bytes (format_terms v.pattern) (format_terms y.pattern))
-
-    pub repeats_other : eq_bytes u.name x.name ≡ false → false ≡ any (λ z. same_undecided z (undecided_one x y)) (last_undecided w g t)
-    repeats_other h = sym (repeats_is ∙ ap (λ (a : Bool). a && eq_bytes (format_terms v.pattern) (format_terms y.pattern)) h)
-
-    pub repeats_text : eq_bytes u.name x.name ≡ true → eq_bytes (format_terms v.pattern) (format_terms y.pattern) ≡ any (λ z. same_undecided z (undecided_one x y)) (last_undecided w g t)
-    repeats_text h = sym (repeats_is ∙ ap (λ (a : Bool). a && eq_bytes (format_terms v.pattern) (format_terms y.pattern)) h)
+    repeats_is =
+        ap (λ (o : Option Candidate). any (λ z. same_undecided z (undecided_one x y)) (last_undecided w o)) h
+        ∙ (ap (any (λ z. same_undecided z (undecided_one x y))) (last-is w c.function c.item u v e k) ∙ or-false (eq_bytes u.name x.name && eq_bytes (format_terms v.pattern) (format_terms y.pattern)))
 
 -- Its line.
 pub undecided-text : (x : Function) (y : Sentence) → sentence_text x.name (format_terms y.pattern) ++ (10 ∷ []) ≡ undecided_line (undecided_one x y)

@@ -20,13 +20,16 @@ use Rattle.told.specs.Numbered.{sites_of}
 use Rattle.told.specs.ToldReport.{fallen_from, same_fallen, removed_of, undecided_told, uncovered_told, runs_after, uncharacterised_names, told_report}
 use Rattle.told.proofs.History.{there-after}
 use Rattle.text.specs.Counts.{count_line, top_text, graph_text}
-use Rattle.text.specs.Fill.{Emitted}
+use Rattle.text.specs.declared.writer.Writer.{Writer}
+use Rattle.text.specs.Fill.{filled}
+use Rattle.text.specs.Written.{written}
+use Rattle.text.proofs.Written.{both, same}
 use Rattle.meaning.specs.Report.{removed_line, undecided_line, uncovered_line, uncharacterised_line, dispatch_line, last_lines, format_clean_report}
 use Rattle.text.proofs.Pieces.{graph_told, report_pieces}
-use Rattle.text.proofs.Fill.{filled-empty, emitted-append, emitted-same, emitted-length}
+use Rattle.text.proofs.Fill.{filled-empty, filled-length}
 use Rattle.report.specs.declared.format.Figures.{Figures}
 use Rattle.report.specs.Format.{lists_text, listed_text}
-use Rattle.report.specs.Figures.{FiguresOf}
+use Rattle.report.specs.Figures.{FiguresOf, anew}
 
 -- A line has at least one letter, so there are no more lines than letters.
 lines-many : {A : Type 0} (line : A → Text) → ((x : A) → 1 ≤ length (line x)) → (l : List A) → length l ≤ length (flat_map line l)
@@ -46,15 +49,14 @@ uncovered-some : (x : UncoveredRestriction) → 1 ≤ length (uncovered_line x)
 unfolding uncovered_line flatten ascii
 uncovered-some x = omega arith
 
-module _ {s bytes : List ℕ} {p r : ℕ} where
-  pub removed-few : (l : List RemovedSentence) → Emitted s p (flat_map removed_line l) r bytes → length l ≤ r
-  removed-few l e = omega (arith, e.after, lines-many removed_line removed-some l)
+pub removed-few : (l : List RemovedSentence) → length l ≤ length (flat_map removed_line l)
+removed-few l = lines-many removed_line removed-some l
 
-  pub undecided-few : (l : List UndecidedSentence) → Emitted s p (flat_map undecided_line l) r bytes → length l ≤ r
-  undecided-few l e = omega (arith, e.after, lines-many undecided_line undecided-some l)
+pub undecided-few : (l : List UndecidedSentence) → length l ≤ length (flat_map undecided_line l)
+undecided-few l = lines-many undecided_line undecided-some l
 
-  pub uncovered-few : (l : List UncoveredRestriction) → Emitted s p (flat_map uncovered_line l) r bytes → length l ≤ r
-  uncovered-few l e = omega (arith, e.after, lines-many uncovered_line uncovered-some l)
+pub uncovered-few : (l : List UncoveredRestriction) → length l ≤ length (flat_map uncovered_line l)
+uncovered-few l = lines-many uncovered_line uncovered-some l
 
 module _ (w : Program) (fell : ℕ → ℕ) (n : ℕ) where
   -- The lists as they are emitted.
@@ -83,9 +85,9 @@ module _ (w : Program) (fell : ℕ → ℕ) (n : ℕ) (below : (s : ℕ) → fel
   unfolding told_report
   uncovered-is = ap (λ (k : ℕ → Bool). runs_after same_uncovered [] (uncovered_told k (sites_of w) 0 w.functions)) after_is
 
-  pub figures-told : (g : Figures) → g.after ≡ (told_report w fell n).sentences_after → g.removed ≡ length (firsts same_fallen (fallen_from w fell 1 n)) → g.undecided ≡ length (undecided_now w fell n) → g.uncovered ≡ length (uncovered_now w fell n)
-      → g.removed_length ≡ length (flat_map removed_line (removed_now w fell n)) → g.undecided_length ≡ length (flat_map undecided_line (undecided_now w fell n)) → g.uncovered_length ≡ length (flat_map uncovered_line (uncovered_now w fell n))
-      → g.uncharacterised ≡ length (told_report w fell n).uncharacterised → g.uncharacterised_length ≡ length (uncharacterised_line (told_report w fell n).uncharacterised) → FiguresOf (told_report w fell n) g
+  pub figures-told : (g : Figures) → g.after ≡ (told_report w fell n).sentences_after → g.removed.count ≡ length (firsts same_fallen (fallen_from w fell 1 n)) → g.undecided.count ≡ length (undecided_now w fell n) → g.uncovered.count ≡ length (uncovered_now w fell n)
+      → g.removed.at ≡ length (flat_map removed_line (removed_now w fell n)) → g.undecided.at ≡ length (flat_map undecided_line (undecided_now w fell n)) → g.uncovered.at ≡ length (flat_map uncovered_line (uncovered_now w fell n))
+      → g.uncharacterised.count ≡ length (told_report w fell n).uncharacterised → g.uncharacterised.at ≡ length (uncharacterised_line (told_report w fell n).uncharacterised) → FiguresOf (told_report w fell n) g
   figures-told g a b c d e h k u v = record {
     after = a;
     removed = b ∙ (sym (length-map (firsts same_fallen (fallen_from w fell 1 n)) (removed_of w fell)) ∙ ap length (removed-is w fell n));
@@ -99,36 +101,51 @@ module _ (w : Program) (fell : ℕ → ℕ) (n : ℕ) (below : (s : ℕ) → fel
   }
 
   pub lists_told : (g : Figures) → FiguresOf (told_report w fell n) g
-      → flat_map removed_line (removed_now w fell n) ++ (count_line (ascii "undecided: ") g.undecided ++ (flat_map undecided_line (undecided_now w fell n) ++ (count_line (ascii "uncovered: ") g.uncovered ++ flat_map uncovered_line (uncovered_now w fell n)))) ≡ lists_text (told_report w fell n)
+      → flat_map removed_line (removed_now w fell n) ++ (count_line (ascii "undecided: ") g.undecided.count ++ (flat_map undecided_line (undecided_now w fell n) ++ (count_line (ascii "uncovered: ") g.uncovered.count ++ flat_map uncovered_line (uncovered_now w fell n)))) ≡ lists_text (told_report w fell n)
   unfolding lists_text
   lists_told g f =
       λ i. flat_map removed_line (removed-is w fell n i) ++ (count_line (ascii "undecided: ") (f.undecided i) ++ (flat_map undecided_line (undecided-is i) ++ (count_line (ascii "uncovered: ") (f.uncovered i) ++ flat_map uncovered_line (uncovered-is i))))
 
 -- Where nothing can be written, a text's length is all that emission takes of it.
-unwritten : (s : List ℕ) (p n : ℕ) (t : Text) → length s ≡ 0 → n ≡ length t → Emitted s p t (p + n) s
-unwritten [] p n t h e = record { after = ap (λ (k : ℕ). p + k) e; left = sym (filled-empty t p) }
-unwritten (x ∷ s) p n t h e = absurd (omega (arith, h))
+pub unwritten : (v : Writer) (t : Text) (n : ℕ) → length v.text.now ≡ 0 → n ≡ length t → v.text.now ≡ filled v.text.now v.filled t × (v.filled + n ≡ v.filled + length t)
+unwritten v t n h e = (by v.text.now h, ap (λ (k : ℕ). v.filled + k) e)
+  where
+    by : (s : List ℕ) → length s ≡ 0 → s ≡ filled s v.filled t
+    by [] z = sym (filled-empty t v.filled)
+    by (x ∷ s) z = absurd (omega (arith, z))
 
 -- So the lines between the lists and the lists' lengths make up the lists.
-pub lists_measured : {s t v : List ℕ} {p q e : ℕ} (r : CleanReport) (g : Figures) → FiguresOf r g → length s ≡ 0
-    → Emitted s (p + g.removed_length) (count_line (ascii "undecided: ") g.undecided) q t → Emitted t (q + g.undecided_length) (count_line (ascii "uncovered: ") g.uncovered) e v → Emitted s p (lists_text r) (e + g.uncovered_length) v
+pub lists_measured : (r : CleanReport) (g : Figures) → FiguresOf r g → (v : Writer) {a b c d e : Writer}
+    → a ≡ written v (flat_map removed_line r.removed) → b ≡ written a (count_line (ascii "undecided: ") g.undecided.count) → c ≡ written b (flat_map undecided_line r.undecided)
+    → d ≡ written c (count_line (ascii "uncovered: ") g.uncovered.count) → e ≡ written d (flat_map uncovered_line r.uncovered) → e ≡ written v (lists_text r)
 unfolding lists_text
-lists_measured {s} {t} {v} {p} {q} {e} r g f none second third =
-    let a = flat_map removed_line r.removed in
-    let b = count_line (ascii "undecided: ") g.undecided in
-    let c = flat_map undecided_line r.undecided in
-    let d = count_line (ascii "uncovered: ") g.uncovered in
+lists_measured r g f v {a} {b} {c} {d} e₁ e₂ e₃ e₄ e₅ =
+    let x = flat_map removed_line r.removed in
+    let y = flat_map undecided_line r.undecided in
     let z = flat_map uncovered_line r.uncovered in
-    let empty : length t ≡ 0 = emitted-length second ∙ none in
-    emitted-same (λ i. a ++ (count_line (ascii "undecided: ") (f.undecided i) ++ (c ++ (count_line (ascii "uncovered: ") (f.uncovered i) ++ z))))
-    (emitted-append a (b ++ (c ++ (d ++ z))) (unwritten s p g.removed_length a none f.removed-length)
-    (emitted-append b (c ++ (d ++ z)) second
-    (emitted-append c (d ++ z) (unwritten t q g.undecided_length c empty f.undecided-length)
-    (emitted-append d z third (unwritten v e g.uncovered_length z (emitted-length third ∙ empty) f.uncovered-length)))))
+    let s = count_line (ascii "undecided: ") g.undecided.count in
+    let t = count_line (ascii "uncovered: ") g.uncovered.count in
+    same v (λ i. x ++ (count_line (ascii "undecided: ") (f.undecided i) ++ (y ++ (count_line (ascii "uncovered: ") (f.uncovered i) ++ z))))
+    (both v x (s ++ (y ++ (t ++ z))) e₁ (both a s (y ++ (t ++ z)) e₂ (both b y (t ++ z) e₃ (both c t z e₄ e₅))))
 
--- And the line of names, if there is one.
-pub names_measured : (s : List ℕ) (p : ℕ) (r : CleanReport) (g : Figures) → FiguresOf r g → length s ≡ 0 → Emitted s p (uncharacterised_line r.uncharacterised) (p + g.uncharacterised_length) s
-names_measured s p r g f none = unwritten s p g.uncharacterised_length (uncharacterised_line r.uncharacterised) none f.uncharacterised-length
+-- ---- the lent bytes
+
+-- The same lent bytes, of which there are as many.
+pub record Kept (w v : Writer) : Type 0 where
+  pub lent : w.text.ghost_name ≡ v.text.ghost_name
+  pub many : length v.text.now ≡ length w.text.now
+
+pub kept : (w : Writer) (t : Text) {v : Writer} → v ≡ written w t → Kept w v
+kept w t e = record { lent = sym (ap (λ (z : Writer). z.text.ghost_name) e); many = ap (λ (z : Writer). length z.text.now) e ∙ filled-length w.text.now w.filled t }
+
+pub kept-anew : (w : Writer) {v : Writer} → v ≡ anew w → Kept w v
+kept-anew w e = record { lent = sym (ap (λ (z : Writer). z.text.ghost_name) e); many = ap (λ (z : Writer). length z.text.now) e }
+
+pub kept-then : {w v u : Writer} → Kept w v → Kept v u → Kept w u
+kept-then a b = record { lent = a.lent ∙ b.lent; many = b.many ∙ a.many }
+
+pub kept-length : {w v : Writer} {s : List ℕ} → Kept w v → (w.text.ghost_name ≡ v.text.ghost_name → s ≡ v.text.now) → length s ≡ length w.text.now
+kept-length k f = ap length (f k.lent) ∙ k.many
 
 -- The names as the code lists them are the report's.
 pub names-told : (w : Program) (fell : ℕ → ℕ) (n root : ℕ) → root ≡ root_place w → firsts same_name (uncharacterised_names root (sites_of w) 0 w.functions) ≡ (told_report w fell n).uncharacterised
@@ -148,8 +165,8 @@ report-whole r =
     regroup a b c d e z = simp append_assoc refl
 
 pub whole-told : (w : Program) (fell : ℕ → ℕ) (n : ℕ) (p : Plan) (g : Figures) → FiguresOf (told_report w fell n) g → length w.functions ≡ p.functions → length (own_sentences w.functions) ≡ p.sentences
-    → top_text p.functions p.sentences g.after n g.removed
-    ++ (lists_text (told_report w fell n) ++ (uncharacterised_line (told_report w fell n).uncharacterised ++ graph_text p.functions g.undecided g.uncovered g.uncharacterised)) ≡ format_clean_report (told_report w fell n)
+    → top_text p.functions p.sentences g.after n g.removed.count
+    ++ (lists_text (told_report w fell n) ++ (uncharacterised_line (told_report w fell n).uncharacterised ++ graph_text p.functions g.undecided.count g.uncovered.count g.uncharacterised.count)) ≡ format_clean_report (told_report w fell n)
 unfolding told_report last_lines dispatch_line
 whole-told w fell n p g f e h =
     let functions = sym e in
@@ -162,11 +179,11 @@ whole-told w fell n p g f e h =
 
 -- The same, with the uncharacterised functions beside the lists, as it is written.
 pub whole-listed : (w : Program) (fell : ℕ → ℕ) (n : ℕ) (p : Plan) (root : ℕ) (g : Figures) → FiguresOf (told_report w fell n) g → length w.functions ≡ p.functions → length (own_sentences w.functions) ≡ p.sentences → root ≡ root_place w
-    → top_text p.functions p.sentences g.after n g.removed ++ (listed_text w root fell n ++ graph_text p.functions g.undecided g.uncovered g.uncharacterised) ≡ format_clean_report (told_report w fell n)
+    → top_text p.functions p.sentences g.after n g.removed.count ++ (listed_text w root fell n ++ graph_text p.functions g.undecided.count g.uncovered.count g.uncharacterised.count) ≡ format_clean_report (told_report w fell n)
 unfolding listed_text
 whole-listed w fell n p root g f e h k =
     let r = told_report w fell n in
-    let graph = graph_text p.functions g.undecided g.uncovered g.uncharacterised in
-    ap (λ (t : Text). top_text p.functions p.sentences g.after n g.removed ++ t)
+    let graph = graph_text p.functions g.undecided.count g.uncovered.count g.uncharacterised.count in
+    ap (λ (t : Text). top_text p.functions p.sentences g.after n g.removed.count ++ t)
     (append_assoc (lists_text r) (uncharacterised_line (firsts same_name (uncharacterised_names root (sites_of w) 0 w.functions))) graph ∙ ap (λ (l : List Name). lists_text r ++ (uncharacterised_line l ++ graph)) (names-told w fell n root k))
     ∙ whole-told w fell n p g f e h

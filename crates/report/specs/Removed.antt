@@ -14,7 +14,8 @@ use Rattle.told.specs.History.{Told}
 use Rattle.cleaning.specs.Indexed.{fell_of}
 use Rattle.cleaning.specs.Walks.{Owns}
 use Rattle.told.specs.ToldReport.{Fallen, fallen_from, removed_of, same_fallen}
-use Rattle.text.specs.Fill.{Emitted}
+use Rattle.text.specs.declared.writer.Writer.{Writer}
+use Rattle.text.specs.Written.{written}
 use Rattle.meaning.specs.Report.{removed_line}
 use Rattle.report.specs.Emitting.{Readable, Decided}
 
@@ -64,9 +65,9 @@ listed_of w fell n l = select (λ z. not (is_repeated w fell n z)) l
 unfoldable pub lines_of : Program → (ℕ → ℕ) → ℕ → List Fallen → Text
 lines_of w fell n l = flat_map removed_line (map (removed_of w fell) (listed_of w fell n l))
 
--- These have been put at the place `at` of the bytes s, after so many others.
-pub record Listed (w : Program) (fell : ℕ → ℕ) (n : ℕ) (l : List Fallen) (s : List ℕ) (at count : ℕ) (bytes : List ℕ) (after counted : ℕ) : Type 0 where
-  pub text : Emitted s at (lines_of w fell n l) after bytes
+-- These have been put to the writing end v, after so many others, which leaves it as u.
+pub record Listed (w : Program) (fell : ℕ → ℕ) (n : ℕ) (l : List Fallen) (v : Writer) (count : ℕ) (u : Writer) (counted : ℕ) : Type 0 where
+  pub text : u ≡ written v (lines_of w fell n l)
   pub told : counted ≡ count + length (listed_of w fell n l)
 
 -- The entries of w, of which n rounds have been told, and which sentences are undecided.

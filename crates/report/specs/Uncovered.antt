@@ -1,6 +1,6 @@
 -- The uncovered restrictions as loops tell them.
-use Rattle.std.specs.Prelude.{ℕ, ◌≡◌, Bool, true, ◌&&◌, cond, List, [], ◌∷◌, drop}
-use Rattle.std.proofs.Math.Option.{Option, none, some}
+use Rattle.std.specs.Prelude.{ℕ, ◌≡◌, Bool, true, ◌&&◌, cond, List, [], ◌∷◌, drop, Option, None, Some}
+use Rattle.std.proofs.Math.Option.{Option as Found, none, some}
 use Rattle.std.proofs.Math.ListN.{get_elem?}
 use Rattle.program.specs.Syntax.{Terms, Function, Program}
 use Rattle.program.specs.Limits.{Mode}
@@ -16,6 +16,8 @@ use Rattle.meaning.specs.CleanReport.{UncoveredRestriction, same_uncovered}
 use Rattle.told.specs.History.{numbered}
 use Rattle.meaning.specs.Report.{uncovered_line}
 use Rattle.report.specs.Leading.{is_leading}
+use Rattle.text.specs.declared.writer.Writer.{Writer}
+use Rattle.report.specs.declared.listing.Candidate.{Candidate}
 use Rattle.report.specs.Listing.{Listing}
 
 -- The terms r stand at n of b, as a pattern.
@@ -26,14 +28,15 @@ pub record ArgumentAt (b : List ℕ) (n : ℕ) (r : Terms) : Type 0 where
 unfoldable pub uncovered_one : Function → Held → UncoveredRestriction
 uncovered_one x y = record { function = x.name; input = format_terms y.site.argument }
 
-unfoldable pub uncovered_some : Option Function → Option Held → List UncoveredRestriction
+unfoldable pub uncovered_some : Found Function → Found Held → List UncoveredRestriction
 uncovered_some (some x) (some y) = uncovered_one x y ∷ []
 uncovered_some (some x) none = []
 uncovered_some none y = []
 
--- The last candidate by its function and its site: none, while there is no such site.
-abbrev pub last_uncovered : Program → ℕ → ℕ → List UncoveredRestriction
-last_uncovered w f i = uncovered_some (get_elem? w.functions f) (get_elem? (sites_of w) i)
+-- The last candidate, by its function and its site.
+abbrev pub last_uncovered : Program → Option Candidate → List UncoveredRestriction
+last_uncovered w None = []
+last_uncovered w (Some c) = uncovered_some (get_elem? w.functions c.function) (get_elem? (sites_of w) c.item)
 
 -- "a restriction is uncovered if it is Disjoint from every sentence": of x, whose first sentence is number k.
 unfoldable pub is_uncovered : (ℕ → Bool) → Function → ℕ → Terms → Bool
@@ -47,7 +50,11 @@ uncovered_at keep sites x k i y = cond (is_leading keep x.name sites i y && is_u
 abbrev pub PlainAt : Program → ℕ → ℕ → Type 0
 PlainAt w f i = (x : Function) (y : Held) → get_elem? w.functions f ≡ some x → get_elem? (sites_of w) i ≡ some y → is_listed true x.name y ≡ true
 
--- From one place, count and last candidate to another, which is a plain site if that one is.
-pub record Uncovered (w : Program) (l : List UncoveredRestriction) (s : List ℕ) (at count f i : ℕ) (bytes : List ℕ) (after counted g j : ℕ) : Type 0 where
-  pub listing : Listing uncovered_line same_uncovered (last_uncovered w f i) l (last_uncovered w g j) s at count bytes after counted
-  pub plain : PlainAt w f i → PlainAt w g j
+-- So is the candidate that was told last, if there is one.
+abbrev pub LastPlain : Program → Option Candidate → Type 0
+LastPlain w last = (c : Candidate) → last ≡ Some c → PlainAt w c.function c.item
+
+-- From one writing end, count and last candidate to another, which is a plain site if that one is.
+pub record Uncovered (w : Program) (l : List UncoveredRestriction) (v : Writer) (count : ℕ) (last : Option Candidate) (u : Writer) (counted : ℕ) (next : Option Candidate) : Type 0 where
+  pub listing : Listing uncovered_line same_uncovered (last_uncovered w last) l (last_uncovered w next) v count u counted
+  pub plain : LastPlain w last → LastPlain w next

@@ -10,10 +10,9 @@ ghost use Rattle.report.specs.Emitting.{Readable, SomeReadable};
 
 use compare::same_text;
 use index::Plan;
-use index::columns::pattern_place;
 use index::names::function_name;
-use index::table::{head_site, place_of};
-use symbols::{same_bytes, same_name};
+use index::table::{Kind, head_site, place_of};
+use symbols::same_name;
 
 // Whether the names of the functions f and g are the same, byte by byte.
 pub fn same_function(b: &[u8], work: &[u32], plan: Plan, f: usize, g: usize) -> bool
@@ -22,7 +21,7 @@ pub fn same_function(b: &[u8], work: &[u32], plan: Plan, f: usize, g: usize) -> 
 {
     let p = place_of(work, f);
     let q = place_of(work, g);
-    same_bytes(function_name(b, p), function_name(b, q))
+    function_name(b, p) == function_name(b, q)
 }
 
 // Whether the g-th and the f-th function have the same name, without regard to case. Those that do share their lists of
@@ -36,10 +35,9 @@ pub fn same_names(b: &[u8], work: &[u32], plan: Plan, g: usize, f: usize) -> boo
     if work[h] != work[k] {
         return false;
     }
-    if head_site(work, plan.functions, f, true) < plan.sites {
-        return true;
-    }
-    if head_site(work, plan.functions, f, false) < plan.sites {
+    if head_site(work, plan.functions, f, Kind::Plain) < plan.sites
+        || head_site(work, plan.functions, f, Kind::Other) < plan.sites
+    {
         return true;
     }
     let p = place_of(work, g);
@@ -52,7 +50,7 @@ pub fn same_pattern(b: &[u8], work: &[u32], plan: Plan, s: usize, t: usize) -> b
     requires { SomeReadable b.now work.now plan × (s < plan.sentences) × (t < plan.sentences) }
     ensures { (w : Program) (x y : Sentence) → Readable b.now w work.now plan → get_elem? (own_sentences w.functions) s ≡ some x → get_elem? (own_sentences w.functions) t ≡ some y → result ≡ eq_bytes (format_terms x.pattern) (format_terms y.pattern) }
 {
-    let p = pattern_place(work, plan, s);
-    let q = pattern_place(work, plan, t);
+    let p = plan.pattern_place(work, s);
+    let q = plan.pattern_place(work, t);
     same_text(&b[p..], &b[q..])
 }

@@ -11,7 +11,7 @@ ghost use Rattle.told.specs.Numbered.{Held, sentences_before, sites_of};
 ghost use Rattle.told.specs.Calls.{is_listed};
 ghost use Rattle.told.specs.History.{is_there, after_all};
 ghost use Rattle.told.specs.ToldReport.{overlaps};
-ghost use Rattle.index.specs.Layout.{marks};
+ghost use Rattle.index.specs.Layout.{marks, Reaches};
 ghost use Rattle.cleaning.specs.Indexed.{Indexed, fell_of};
 ghost use Rattle.cleaning.specs.Room.{Used};
 ghost use Rattle.cleaning.specs.Walks.{SomeAsked, Owns};
@@ -19,13 +19,15 @@ ghost use Rattle.report.specs.Emitting.{Readable, SomeReadable, SomeSentence};
 ghost use Rattle.report.specs.Notes.{is_open, open_at, OpenSet, OpenUpto, FunctionOpen, DecidedUpto};
 
 use crate::AFTER_ALL;
-use cleaning::rounds::first_sentence;
+use crate::sentence::sentences_of;
 use cleaning::verdict::verdict_at;
 use cleaning::walks::{is_judged, is_there, site_there, witness_of};
 use index::Plan;
-use index::columns::{lines_of, links_of, pattern_place};
 use index::table::next_site;
-use overlap::is_overlap;
+use patterns::Verdict;
+
+// The bit of an undecided sentence, above the round in its entry.
+const UNDECIDED: u32 = 134217728;
 
 // Whether the site i is there when the round begins, and the pattern that stands at `pattern` of the body b has an Overlap with it.
 fn overlaps_at(
@@ -40,10 +42,7 @@ fn overlaps_at(
     ensures answers { (w : Program) (f : ℕ) (x : Function) (y : Held) → Indexed b.now w work.old plan → get_elem? w.functions f ≡ some x → get_elem? (sites_of w) i ≡ some y → is_listed true x.name y ≡ true → (t : TermsAt Mode.pattern (drop pattern b.now)) → result ≡ overlaps (is_there (fell_of plan work.old) round) x.name t.terms y }
     ensures keeps { Used plan work.old work.new }
 {
-    if !site_there(work, plan, i, round) {
-        return false;
-    }
-    is_overlap(verdict_at(b, work, plan, pattern, i))
+    site_there(work, plan, i, round) && verdict_at(b, work, plan, pattern, i) == Verdict::Overlap
 }
 
 // Whether a restriction of the f-th function gives its sentence s Overlap in the end. The sites before its witness give Disjoint.
@@ -52,8 +51,8 @@ fn is_decided(b: &[u8], work: &mut [u32], plan: Plan, f: usize, s: usize) -> boo
     ensures answers { (w : Program) (x : Function) (y : Sentence) → Readable b.now w work.old plan → Owns w f x s y → result ≡ any (overlaps (is_there (fell_of plan work.old) after_all) x.name y.pattern) (sites_of w) }
     ensures keeps { Used plan work.old work.new }
 {
-    let pattern = pattern_place(work, plan, s);
-    let links = links_of(plan);
+    let pattern = plan.pattern_place(work, s);
+    let links = plan.links();
     let mut i = witness_of(work, plan, f, s);
     while i < plan.sites {
         if overlaps_at(b, work, plan, pattern, i, AFTER_ALL) {
@@ -70,33 +69,26 @@ fn stays_open(b: &[u8], work: &mut [u32], plan: Plan, f: usize, s: usize) -> boo
     ensures answers { (w : Program) (x : Function) (y : Sentence) → Readable b.now w work.old plan → Owns w f x s y → result ≡ open_at (is_there (fell_of plan work.old) after_all) (sites_of w) x s y }
     ensures keeps { Used plan work.old work.new }
 {
-    if !is_there(work, plan, s, AFTER_ALL) {
-        return false;
-    }
-    !is_decided(b, work, plan, f, s)
+    is_there(work, plan, s, AFTER_ALL) && !is_decided(b, work, plan, f, s)
 }
 
 // Notes it of the sentence s.
 fn set_open(work: &mut [u32], plan: Plan, s: usize, undecided: bool)
-    requires { (s < plan.sentences) × (marks plan ≤ length work.old) × (length work.old ≤ 8192) }
+    requires { (s < plan.sentences) × Reaches (marks plan) work.old }
     ensures { OpenSet plan work.old work.new s undecided }
 {
-    let k = lines_of(plan) + s;
-    let e = work[k] % 134217728;
-    if undecided {
-        work[k] = e + 134217728;
-        return;
-    }
-    work[k] = e;
+    let k = plan.lines() + s;
+    let e = work[k] % UNDECIDED;
+    work[k] = if undecided { e + UNDECIDED } else { e };
 }
 
 // Whether it is noted of the sentence s.
 pub fn is_undecided(work: &[u32], plan: Plan, s: usize) -> bool
-    requires { (s < plan.sentences) × (marks plan ≤ length work.now) × (length work.now ≤ 8192) }
+    requires { (s < plan.sentences) × Reaches (marks plan) work.now }
     ensures { result ≡ is_open plan work.now s }
 {
-    let k = lines_of(plan) + s;
-    work[k] / 134217728 == 1
+    let k = plan.lines() + s;
+    work[k] / UNDECIDED == 1
 }
 
 // Asks for every sentence of the f-th function.
@@ -104,12 +96,10 @@ fn note_sentences(b: &[u8], work: &mut [u32], plan: Plan, f: usize)
     requires { SomeReadable b.now work.old plan × (f < plan.functions) }
     ensures { (w : Program) (x : Function) → Readable b.now w work.old plan → get_elem? w.functions f ≡ some x → OpenUpto w work.old work.new plan f x (sentences_before (suc f) w.functions) }
 {
-    let end = first_sentence(work, plan, f + 1);
-    let mut s = first_sentence(work, plan, f);
-    while s < end {
+    let own = sentences_of(work, plan, f);
+    for s in own.start..own.end {
         let undecided = stays_open(b, work, plan, f, s);
         set_open(work, plan, s, undecided);
-        s += 1;
     }
 }
 
@@ -129,9 +119,7 @@ pub fn note_undecided(b: &[u8], work: &mut [u32], plan: Plan)
     requires { SomeReadable b.now work.old plan }
     ensures { (w : Program) → Readable b.now w work.old plan → DecidedUpto w work.old work.new plan plan.functions }
 {
-    let mut f: usize = 0;
-    while f < plan.functions {
+    for f in 0..plan.functions {
         note_if_judged(b, work, plan, f);
-        f += 1;
     }
 }

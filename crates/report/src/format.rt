@@ -1,38 +1,38 @@
 // The report: the writing end is made over the lent text and carried through its pieces.
-ghost use Rattle.std.specs.Prelude.{◌≡◌, ◌<◌, ◌≤◌, length};
+ghost use Rattle.std.specs.Prelude.{◌≡◌, ◌+◌, ◌<◌, ◌≤◌, length};
 ghost use Rattle.program.specs.Syntax.{Program};
 ghost use Rattle.program.specs.Encode.{own_sentence_count};
 ghost use Rattle.meaning.specs.Root.{root_place};
+ghost use Rattle.meaning.specs.Text.{Text};
 ghost use Rattle.cleaning.specs.Indexed.{fell_of};
 ghost use Rattle.cleaning.specs.Room.{Used};
 ghost use Rattle.told.specs.ToldReport.{told_report, unchanged_report};
-ghost use Rattle.text.specs.Fill.{Emitted};
+ghost use Rattle.text.specs.Counts.{graph_text, top_text};
+ghost use Rattle.text.specs.Fill.{Emitted, limit};
 ghost use Rattle.meaning.specs.Report.{format_clean_report};
 ghost use Rattle.text.specs.Written.{written};
 ghost use Rattle.report.specs.Removed.{Removing, SomeRemoving};
-ghost use Rattle.report.specs.Format.{lists_text, listed_text};
-ghost use Rattle.report.specs.Figures.{FiguresOf, Few, Reporting, SomeReporting};
+ghost use Rattle.report.specs.Format.{listed_text};
+ghost use Rattle.report.specs.Figures.{FiguresOf, Few, Reporting, SomeReporting, anew};
 
+use crate::listing::Lines;
 use crate::names::put_uncharacterised;
 use crate::removed::put_removed;
 use crate::uncovered::put_uncovered;
 use crate::undecided::put_undecided;
 use index::Plan;
-use text::counts::{put_count_line, put_graph, put_top};
-use text::writer::{Writer, write_graph, write_top, write_unchanged};
+use text::counts::{Graph, Top};
+use text::writer::Writer;
 
-// The numbers of a report: sentences left, the lines of its lists, the names that are uncharacterised, and the bytes of those.
+// The numbers of a report: sentences left, and of each list, and the line of uncharacterised functions, how long its
+// text is and how many lines, or names, it has.
 #[derive(Clone, Copy)]
 pub struct Figures {
     pub after: usize,
-    pub removed: usize,
-    pub undecided: usize,
-    pub uncovered: usize,
-    pub uncharacterised: usize,
-    pub removed_length: usize,
-    pub undecided_length: usize,
-    pub uncovered_length: usize,
-    pub uncharacterised_length: usize,
+    pub removed: Lines,
+    pub undecided: Lines,
+    pub uncovered: Lines,
+    pub uncharacterised: Lines,
 }
 
 // The report of a program with a call of Mu or Up, which is left alone.
@@ -44,8 +44,17 @@ pub fn format_unchanged(out: &mut [u8], functions: usize, sentences: usize) -> u
         text: out,
         filled: 0,
     };
-    write_unchanged(&mut w, functions, sentences);
+    w.put_unchanged(functions, sentences);
     w.filled
+}
+
+// A list that was emitted from the start: where it ends, and so many lines. The next begins at the start again.
+fn measured(out: &mut Writer<'_>, count: usize) -> Lines
+    ensures { (result.at ≡ out.old.filled) × (result.count ≡ count) × (out.new ≡ anew out.old) }
+{
+    let at = out.filled;
+    out.filled = 0;
+    Lines { at, count }
 }
 
 // The numbers of the report, with so many sentences left after so many rounds; the lists are emitted into no text.
@@ -63,81 +72,75 @@ pub fn count_lists(
     ensures few { Few result }
     ensures keeps { Used plan work.old work.new }
 {
-    let names = put_uncharacterised(b, work, plan, root, none, 0);
-    let removed = put_removed(b, work, plan, rounds, none, 0);
-    let undecided = put_undecided(b, work, plan, none, 0);
-    let uncovered = put_uncovered(b, work, plan, none, 0);
+    let mut w = Writer {
+        text: none,
+        filled: 0,
+    };
+    let names = put_uncharacterised(b, work, plan, root, &mut w);
+    let uncharacterised = measured(&mut w, names);
+    let gone = put_removed(b, work, plan, rounds, &mut w);
+    let removed = measured(&mut w, gone);
+    let open = put_undecided(b, work, plan, &mut w);
+    let undecided = measured(&mut w, open);
+    let bare = put_uncovered(b, work, plan, &mut w);
+    let uncovered = measured(&mut w, bare);
     Figures {
-        after: after,
-        removed: removed.count,
-        undecided: undecided.count,
-        uncovered: uncovered.count,
-        uncharacterised: names.count,
-        removed_length: removed.at,
-        undecided_length: undecided.at,
-        uncovered_length: uncovered.at,
-        uncharacterised_length: names.at,
+        after,
+        removed,
+        undecided,
+        uncovered,
+        uncharacterised,
     }
 }
 
-// The lists and the lines between them, from the place `at` on.
+// The lines before the lists.
+fn put_top(plan: Plan, rounds: usize, figures: Figures, out: &mut Writer<'_>)
+    requires { (plan.functions ≤ 8192) × (plan.sentences ≤ 8192) × (rounds < 4096) × Few figures × (out.old.filled + 150 ≤ limit) }
+    ensures { (out.new ≡ written out.old (top_text plan.functions plan.sentences figures.after rounds figures.removed.count)) × (out.new.filled ≤ out.old.filled + 150) }
+{
+    out.put_top(Top {
+        functions: plan.functions,
+        before: plan.sentences,
+        after: figures.after,
+        rounds,
+        removed: figures.removed.count,
+    });
+}
+
+// The lists and the lines between them, and the line of uncharacterised functions behind them.
 fn put_lists(
     b: &[u8],
     work: &mut [u32],
     plan: Plan,
+    root: usize,
     rounds: usize,
     figures: Figures,
-    out: &mut [u8],
-    at: usize,
-) -> usize
-    requires { SomeReporting b.now work.old plan rounds figures × (rounds < 4096) × (at ≤ 1000) }
-    ensures written { (w : Program) → Reporting b.now w work.old plan rounds figures → Emitted out.old at (lists_text (told_report w (fell_of plan work.old) rounds)) result out.new }
-    ensures short { result ≤ 1000000000000000000 }
+    out: &mut Writer<'_>,
+)
+    requires { SomeReporting b.now work.old plan rounds figures × (rounds < 4096) × (out.old.filled ≤ 1000) }
+    ensures written { (w : Program) → Reporting b.now w work.old plan rounds figures → out.new ≡ written out.old (listed_text w root (fell_of plan work.old) rounds) }
+    ensures short { out.new.filled ≤ 1000000001000000000 }
     ensures keeps { Used plan work.old work.new }
 {
-    let removed = put_removed(b, work, plan, rounds, out, at);
-    let second = put_count_line(out, removed.at, b"undecided: ", figures.undecided);
-    let undecided = put_undecided(b, work, plan, out, second);
-    let third = put_count_line(out, undecided.at, b"uncovered: ", figures.uncovered);
-    let uncovered = put_uncovered(b, work, plan, out, third);
-    uncovered.at
+    put_removed(b, work, plan, rounds, out);
+    out.put_count_line(b"undecided: ", figures.undecided.count);
+    put_undecided(b, work, plan, out);
+    out.put_count_line(b"uncovered: ", figures.uncovered.count);
+    put_uncovered(b, work, plan, out);
+    put_uncharacterised(b, work, plan, root, out);
 }
 
-// The lists, and the line of uncharacterised functions behind them.
-fn put_listed(
-    b: &[u8],
-    work: &mut [u32],
-    plan: Plan,
-    root: usize,
-    rounds: usize,
-    figures: Figures,
-    out: &mut [u8],
-    at: usize,
-) -> usize
-    requires { SomeReporting b.now work.old plan rounds figures × (rounds < 4096) × (at ≤ 1000) }
-    ensures { ((p : Program) → Reporting b.now p work.old plan rounds figures → Emitted out.old at (listed_text p root (fell_of plan work.old) rounds) result out.new) × (result ≤ 1000000001000000000) × Used plan work.old work.new }
+// The verdict.
+fn put_graph(plan: Plan, figures: Figures, out: &mut Writer<'_>)
+    requires { (plan.functions ≤ 8192) × Few figures × (out.old.filled + 120 ≤ limit) }
+    ensures { out.new ≡ written out.old (graph_text plan.functions figures.undecided.count figures.uncovered.count figures.uncharacterised.count) }
 {
-    let end = put_lists(b, work, plan, rounds, figures, out, at);
-    let names = put_uncharacterised(b, work, plan, root, out, end);
-    names.at
-}
-
-// The lists, through the writing end.
-fn write_lists<'b, 'c, 'a>(
-    b: &'b [u8],
-    work: &'c mut [u32],
-    plan: Plan,
-    root: usize,
-    rounds: usize,
-    figures: Figures,
-    w: &mut Writer<'a>,
-)
-    requires { SomeReporting b.now work.old plan rounds figures × (rounds < 4096) × (w.old.filled ≤ 1000) }
-    ensures { ((p : Program) → Reporting b.now p work.old plan rounds figures → w.new ≡ written w.old (listed_text p root (fell_of plan work.old) rounds)) × (w.new.filled ≤ 1000000001000000000) × Used plan work.old work.new }
-{
-    let at = w.filled;
-    let next = put_listed(b, work, plan, root, rounds, figures, &mut *w.text, at);
-    w.filled = next;
+    out.put_graph(Graph {
+        functions: plan.functions,
+        undecided: figures.undecided.count,
+        uncovered: figures.uncovered.count,
+        uncharacterised: figures.uncharacterised.count,
+    });
 }
 
 // The report of a program that was cleaned in so many rounds: all of it goes through
@@ -159,23 +162,19 @@ pub fn format_clean_report(
         text: out,
         filled: 0,
     };
-    write_top(
-        &mut w,
-        plan.functions,
-        plan.sentences,
-        figures.after,
-        rounds,
-        figures.removed,
-    );
-    write_lists(b, work, plan, root, rounds, figures, &mut w);
-    write_graph(
-        &mut w,
-        plan.functions,
-        figures.undecided,
-        figures.uncovered,
-        figures.uncharacterised,
-    );
+    put_top(plan, rounds, figures, &mut w);
+    put_lists(b, work, plan, root, rounds, figures, &mut w);
+    put_graph(plan, figures, &mut w);
     w.filled
+}
+
+// A text of so many bytes is counted and not written, since there is no place for it.
+fn pass_over(out: &mut Writer<'_>, bytes: usize)
+    requires { (length out.old.text.now ≡ 0) × (out.old.filled + bytes ≤ limit) }
+    ensures written { (t : Text) → bytes ≡ length t → out.new ≡ written out.old t }
+    ensures same { (length out.new.text.now ≡ 0) × (out.new.filled ≡ out.old.filled + bytes) }
+{
+    out.filled += bytes;
 }
 
 // Where the same report ends, emitted into no text: the lengths of the lists and of the line of names stand for them.
@@ -191,27 +190,17 @@ pub fn measure_clean_report(
     requires { SomeReporting b.now work.now plan rounds figures × (rounds < 4096) × (length none.old ≡ 0) }
     ensures { (w : Program) → Reporting b.now w work.now plan rounds figures → root ≡ root_place w → Emitted none.old 0 (format_clean_report (told_report w (fell_of plan work.now) rounds)) result none.new }
 {
-    let first = put_top(
-        none,
-        0,
-        plan.functions,
-        plan.sentences,
-        figures.after,
-        rounds,
-        figures.removed,
-    );
-    let undecided = first + figures.removed_length;
-    let second = put_count_line(none, undecided, b"undecided: ", figures.undecided);
-    let uncovered = second + figures.undecided_length;
-    let third = put_count_line(none, uncovered, b"uncovered: ", figures.uncovered);
-    let open = third + figures.uncovered_length;
-    let fourth = open + figures.uncharacterised_length;
-    put_graph(
-        none,
-        fourth,
-        plan.functions,
-        figures.undecided,
-        figures.uncovered,
-        figures.uncharacterised,
-    )
+    let mut w = Writer {
+        text: none,
+        filled: 0,
+    };
+    put_top(plan, rounds, figures, &mut w);
+    pass_over(&mut w, figures.removed.at);
+    w.put_count_line(b"undecided: ", figures.undecided.count);
+    pass_over(&mut w, figures.undecided.at);
+    w.put_count_line(b"uncovered: ", figures.uncovered.count);
+    pass_over(&mut w, figures.uncovered.at);
+    pass_over(&mut w, figures.uncharacterised.at);
+    put_graph(plan, figures, &mut w);
+    w.filled
 }

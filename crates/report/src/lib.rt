@@ -5,6 +5,7 @@ pub mod alike;
 pub mod decided;
 pub mod format;
 pub mod leading;
+pub mod listing;
 pub mod names;
 pub mod notes;
 pub mod removed;
@@ -13,5 +14,5 @@ pub mod sentence;
 pub mod uncovered;
 pub mod undecided;
 
-// A round after all: what is there then never fell.
+// A round after all: what is there then never fell. It is compared as any round is, where an option would be a case apart.
 const AFTER_ALL: usize = 4096;

@@ -9,7 +9,8 @@ ghost use Rattle.told.specs.Asked.{uncharacterises};
 ghost use Rattle.told.specs.Numbered.{sites_of};
 ghost use Rattle.cleaning.specs.Indexed.{Indexed, SomeBody};
 ghost use Rattle.told.specs.ToldReport.{uncharacterised_names};
-ghost use Rattle.text.specs.Fill.{Emitted, limit};
+ghost use Rattle.text.specs.Fill.{limit};
+ghost use Rattle.text.specs.Written.{written};
 ghost use Rattle.meaning.specs.Report.{uncharacterised_line};
 ghost use Rattle.report.specs.Emitting.{Readable, SomeReadable};
 ghost use Rattle.report.specs.Names.{is_uncharacterised, is_newly_uncharacterised, lead, uncharacterised_text, uncharacterised_count, line_end};
@@ -17,22 +18,15 @@ ghost use Rattle.report.specs.Names.{is_uncharacterised, is_newly_uncharacterise
 use crate::alike::same_names;
 use crate::sentence::put_name;
 use index::Plan;
-use index::table::head_site;
-use text::emit::{put_byte, put_bytes};
-
-// The place after the line so far, and how many names it has.
-#[derive(Clone, Copy)]
-pub struct Named {
-    pub at: usize,
-    pub count: usize,
-}
+use index::table::{Kind, head_site};
+use text::writer::Writer;
 
 // Whether a site uncharacterises the f-th function.
 fn has_call_in_argument(work: &[u32], plan: Plan, f: usize) -> bool
     requires { SomeBody work.now plan × (f < plan.functions) }
     ensures { (b : List ℕ) (w : Program) (x : Function) → Indexed b w work.now plan → get_elem? w.functions f ≡ some x → result ≡ any (uncharacterises (λ s. true) x.name) (sites_of w) }
 {
-    head_site(work, plan.functions, f, false) < plan.sites
+    head_site(work, plan.functions, f, Kind::Other) < plan.sites
 }
 
 // The same of a function that is not the root.
@@ -40,10 +34,7 @@ fn is_uncharacterised(work: &[u32], plan: Plan, root: usize, f: usize) -> bool
     requires { SomeBody work.now plan × (f < plan.functions) }
     ensures { (b : List ℕ) (w : Program) (x : Function) → Indexed b w work.now plan → get_elem? w.functions f ≡ some x → result ≡ is_uncharacterised root (sites_of w) f x }
 {
-    if f == root {
-        return false;
-    }
-    has_call_in_argument(work, plan, f)
+    f != root && has_call_in_argument(work, plan, f)
 }
 
 // Whether the g-th function is listed under the name of the f-th.
@@ -51,10 +42,7 @@ fn is_namesake(b: &[u8], work: &[u32], plan: Plan, root: usize, g: usize, f: usi
     requires { SomeReadable b.now work.now plan × (g < plan.functions) × (f < plan.functions) }
     ensures { (w : Program) (y x : Function) → Readable b.now w work.now plan → get_elem? w.functions g ≡ some y → get_elem? w.functions f ≡ some x → result ≡ (is_uncharacterised root (sites_of w) g y && same_name y.name x.name) }
 {
-    if is_uncharacterised(work, plan, root, g) {
-        return same_names(b, work, plan, g, f);
-    }
-    false
+    is_uncharacterised(work, plan, root, g) && same_names(b, work, plan, g, f)
 }
 
 // Whether an earlier function is listed under the name of the f-th.
@@ -62,12 +50,10 @@ fn is_named_before(b: &[u8], work: &[u32], plan: Plan, root: usize, f: usize) ->
     requires { SomeReadable b.now work.now plan × (f < plan.functions) }
     ensures { (w : Program) (x : Function) → Readable b.now w work.now plan → get_elem? w.functions f ≡ some x → result ≡ any (λ n. same_name n x.name) (uncharacterised_names root (sites_of w) 0 (take f w.functions)) }
 {
-    let mut g = 0;
-    while g < f {
+    for g in 0..f {
         if is_namesake(b, work, plan, root, g, f) {
             return true;
         }
-        g += 1;
     }
     false
 }
@@ -77,84 +63,71 @@ fn is_newly_uncharacterised(b: &[u8], work: &[u32], plan: Plan, root: usize, f: 
     requires { SomeReadable b.now work.now plan × (f < plan.functions) }
     ensures { (w : Program) (x : Function) → Readable b.now w work.now plan → get_elem? w.functions f ≡ some x → result ≡ is_newly_uncharacterised root w f x }
 {
-    if is_uncharacterised(work, plan, root, f) {
-        return !is_named_before(b, work, plan, root, f);
-    }
-    false
+    is_uncharacterised(work, plan, root, f) && !is_named_before(b, work, plan, root, f)
 }
 
-// What stands before a name.
-fn put_lead(out: &mut [u8], at: usize, first: bool) -> usize
-    requires { at + 17 ≤ limit }
-    ensures { Emitted out.old at (lead first) result out.new × (result ≤ at + 17) }
+// What stands before a name: a flag, as the definition of the line has it (`lead`).
+fn put_lead(out: &mut Writer<'_>, first: bool)
+    requires { out.old.filled + 17 ≤ limit }
+    ensures { (out.new ≡ written out.old (lead first)) × (out.new.filled ≤ out.old.filled + 17) }
 {
     if first {
-        return put_bytes(out, at, b"uncharacterised: ");
+        return out.put_bytes(b"uncharacterised: ");
     }
-    put_bytes(out, at, b", ")
+    out.put_bytes(b", ");
 }
 
-// The f-th function, if it is listed; the line begins at `from`.
+// The f-th function, if it is listed; the number of names is counted on.
 fn put_if_uncharacterised(
     b: &[u8],
     work: &[u32],
     plan: Plan,
     root: usize,
     f: usize,
-    out: &mut [u8],
-    from: usize,
-    line: Named,
-) -> Named
-    requires { SomeReadable b.now work.now plan × (f < plan.functions) × (line.at + 32785 ≤ limit) × (line.count ≤ f) }
-    ensures written { (w : Program) (x : Function) → Readable b.now w work.now plan → get_elem? w.functions f ≡ some x → Emitted out.old line.at (uncharacterised_text root w f x (eqb line.at from)) result.at out.new }
-    ensures counted { (w : Program) (x : Function) → Readable b.now w work.now plan → get_elem? w.functions f ≡ some x → result.count ≡ line.count + uncharacterised_count root w f x }
-    ensures short { (result.at ≤ line.at + 32785) × (result.count ≤ line.count + 1) }
+    out: &mut Writer<'_>,
+    count: usize,
+) -> usize
+    requires { SomeReadable b.now work.now plan × (f < plan.functions) × (out.old.filled + 32785 ≤ limit) × (count ≤ f) }
+    ensures written { (w : Program) (x : Function) → Readable b.now w work.now plan → get_elem? w.functions f ≡ some x → out.new ≡ written out.old (uncharacterised_text root w f x (eqb count 0)) }
+    ensures counted { (w : Program) (x : Function) → Readable b.now w work.now plan → get_elem? w.functions f ≡ some x → result ≡ count + uncharacterised_count root w f x }
+    ensures short { (out.new.filled ≤ out.old.filled + 32785) × (result ≤ count + 1) }
 {
-    if is_newly_uncharacterised(b, work, plan, root, f) {
-        let name = put_lead(out, line.at, line.at == from);
-        let end = put_name(b, work, plan, f, out, name);
-        return Named {
-            at: end,
-            count: line.count + 1,
-        };
+    if !is_newly_uncharacterised(b, work, plan, root, f) {
+        return count;
     }
-    line
+    put_lead(out, count == 0);
+    put_name(b, work, plan, f, out);
+    count + 1
 }
 
-// The end of the line that began at `from`, if there is a line.
-fn put_line_end(out: &mut [u8], from: usize, at: usize) -> usize
-    requires { at < limit }
-    ensures { Emitted out.old at (line_end (eqb at from)) result out.new × (result ≤ at + 1) }
+// The end of the line, if it has a name.
+fn put_line_end(out: &mut Writer<'_>, count: usize)
+    requires { out.old.filled < limit }
+    ensures { (out.new ≡ written out.old (line_end (eqb count 0))) × (out.new.filled ≤ out.old.filled + 1) }
 {
-    if at == from {
-        return at;
+    if count == 0 {
+        return;
     }
-    put_byte(out, at, 10)
+    out.put_byte(b'\n');
 }
 
-// The line of uncharacterised functions, each name once; nothing, if there is none.
+// The line of uncharacterised functions, each name once; nothing, if there is none. It hands back how many there are.
 pub fn put_uncharacterised(
     b: &[u8],
     work: &[u32],
     plan: Plan,
     root: usize,
-    out: &mut [u8],
-    at: usize,
-) -> Named
-    requires { SomeReadable b.now work.now plan × (at + 8192 * 32800 ≤ limit) }
-    ensures written { (w : Program) → Readable b.now w work.now plan → Emitted out.old at (uncharacterised_line (firsts same_name (uncharacterised_names root (sites_of w) 0 w.functions))) result.at out.new }
-    ensures counted { (w : Program) → Readable b.now w work.now plan → result.count ≡ length (firsts same_name (uncharacterised_names root (sites_of w) 0 w.functions)) }
-    ensures short { (result.at ≤ at + 8192 * 32800) × (result.count ≤ 8192) }
+    out: &mut Writer<'_>,
+) -> usize
+    requires { SomeReadable b.now work.now plan × (out.old.filled + 8192 * 32800 ≤ limit) }
+    ensures written { (w : Program) → Readable b.now w work.now plan → out.new ≡ written out.old (uncharacterised_line (firsts same_name (uncharacterised_names root (sites_of w) 0 w.functions))) }
+    ensures counted { (w : Program) → Readable b.now w work.now plan → result ≡ length (firsts same_name (uncharacterised_names root (sites_of w) 0 w.functions)) }
+    ensures short { (out.new.filled ≤ out.old.filled + 8192 * 32800) × (result ≤ 8192) }
 {
-    let mut line = Named { at: at, count: 0 };
-    let mut f = 0;
-    while f < plan.functions {
-        line = put_if_uncharacterised(b, work, plan, root, f, out, at, line);
-        f += 1;
+    let mut count: usize = 0;
+    for f in 0..plan.functions {
+        count = put_if_uncharacterised(b, work, plan, root, f, out, count);
     }
-    let end = put_line_end(out, at, line.at);
-    Named {
-        at: end,
-        count: line.count,
-    }
+    put_line_end(out, count);
+    count
 }

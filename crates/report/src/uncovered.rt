@@ -14,33 +14,32 @@ ghost use Rattle.told.specs.Asked.{is_judged};
 ghost use Rattle.meaning.specs.Cleaning.{is_disjoint};
 ghost use Rattle.meaning.specs.CleanReport.{same_uncovered};
 ghost use Rattle.told.specs.History.{is_there, after_all};
-ghost use Rattle.index.specs.Layout.{witnesses, room};
+ghost use Rattle.index.specs.Layout.{witnesses, room, Reaches};
 ghost use Rattle.cleaning.specs.Indexed.{SomeBody, fell_of};
 ghost use Rattle.cleaning.specs.Room.{Used};
 ghost use Rattle.meaning.specs.Text.{format_terms};
 ghost use Rattle.cleaning.specs.Walks.{Owns};
 ghost use Rattle.told.specs.ToldReport.{uncovered_in, judged_only, uncovered_told, runs_after};
-ghost use Rattle.text.specs.Fill.{Emitted, limit};
+ghost use Rattle.text.specs.Fill.{limit};
+ghost use Rattle.text.specs.Written.{written};
 ghost use Rattle.meaning.specs.Report.{uncovered_line};
 ghost use Rattle.report.specs.Emitting.{Readable, SomeReadable};
 ghost use Rattle.report.specs.Leading.{SomeSite};
-ghost use Rattle.report.specs.Uncovered.{uncovered_one, last_uncovered, is_uncovered, uncovered_at, PlainAt, Uncovered};
+ghost use Rattle.report.specs.Listing.{LastIn};
+ghost use Rattle.report.specs.Uncovered.{uncovered_one, last_uncovered, is_uncovered, uncovered_at, LastPlain, Uncovered};
 
 use crate::AFTER_ALL;
 use crate::alike::same_function;
 use crate::leading::{argument_of, leads};
-use crate::sentence::put_name;
-use crate::undecided::Listed;
-use cleaning::rounds::first_sentence;
+use crate::listing::{Candidate, Listed};
+use crate::sentence::{put_name, sentences_of};
 use cleaning::verdict::verdict_at;
 use cleaning::walks::{is_judged, is_there};
 use compare::same_text;
 use index::Plan;
-use index::columns::{links_of, pattern_place, witnesses_of};
-use index::table::{head_site, next_site};
-use overlap::is_disjoint;
-use text::emit::{put_byte, put_bytes};
-use text::terms::format_terms;
+use index::table::{Kind, head_site, next_site};
+use patterns::Verdict;
+use text::writer::Writer;
 
 // Whether the sentence s is left, and not Disjoint from the argument of the plain site i, which is left too. The witness
 // tells it of the sites up to its own; the others are asked.
@@ -52,7 +51,7 @@ fn covers(b: &[u8], work: &mut [u32], plan: Plan, s: usize, i: usize) -> bool
     if !is_there(work, plan, s, AFTER_ALL) {
         return false;
     }
-    let k = witnesses_of(plan) + s;
+    let k = plan.witnesses() + s;
     let witness = work[k] as usize;
     if i + 1 < witness {
         return false;
@@ -60,20 +59,17 @@ fn covers(b: &[u8], work: &mut [u32], plan: Plan, s: usize, i: usize) -> bool
     if i + 1 == witness {
         return true;
     }
-    let pattern = pattern_place(work, plan, s);
-    !is_disjoint(verdict_at(b, work, plan, pattern, i))
+    let pattern = plan.pattern_place(work, s);
+    verdict_at(b, work, plan, pattern, i) != Verdict::Disjoint
 }
 
 // Whether the plain site i is the witness of the sentence s, which is left.
 fn is_witness(work: &[u32], plan: Plan, s: usize, i: usize) -> bool
-    requires { (s < plan.sentences) × (i < plan.sites) × (room plan ≤ length work.now) × (length work.now ≤ 8192) }
+    requires { (s < plan.sentences) × (i < plan.sites) × Reaches (room plan) work.now }
     ensures { result ≡ (is_there (fell_of plan work.now) after_all s && eqb (get_or work.now (witnesses plan + s) 0) (i + 1)) }
 {
-    if !is_there(work, plan, s, AFTER_ALL) {
-        return false;
-    }
-    let k = witnesses_of(plan) + s;
-    work[k] as usize == i + 1
+    let k = plan.witnesses() + s;
+    is_there(work, plan, s, AFTER_ALL) && work[k] as usize == i + 1
 }
 
 // Whether it is that of a sentence of the f-th function, which then covers it.
@@ -81,30 +77,27 @@ fn is_witnessed(work: &[u32], plan: Plan, f: usize, i: usize) -> bool
     requires { SomeBody work.now plan × (f < plan.functions) × (i < plan.sites) }
     ensures { (b : List ℕ) (w : Program) (x : Function) (y : Held) → Readable b w work.now plan → get_elem? w.functions f ≡ some x → get_elem? (sites_of w) i ≡ some y → result ≡ true → is_uncovered (is_there (fell_of plan work.now) after_all) x (sentences_before f w.functions) y.site.argument ≡ false }
 {
-    let end = first_sentence(work, plan, f + 1);
-    let mut s = first_sentence(work, plan, f);
-    while s < end {
+    let own = sentences_of(work, plan, f);
+    for s in own.start..own.end {
         if is_witness(work, plan, s, i) {
             return true;
         }
-        s += 1;
     }
     false
 }
 
-// Whether some sentence of the f-th function covers the argument of the plain site i.
+// Whether some sentence of the f-th function covers the argument of the plain site i. The search changes `work`, and of what
+// a closure changes `any` tells nothing.
 fn any_covers(b: &[u8], work: &mut [u32], plan: Plan, f: usize, i: usize) -> bool
     requires { SomeSite b.now work.old plan i × (f < plan.functions) }
     ensures answers { (w : Program) (x : Function) (y : Held) → Readable b.now w work.old plan → get_elem? w.functions f ≡ some x → get_elem? (sites_of w) i ≡ some y → is_listed true x.name y ≡ true → is_there (fell_of plan work.old) after_all y.sentence ≡ true → is_uncovered (is_there (fell_of plan work.old) after_all) x (sentences_before f w.functions) y.site.argument ≡ not result }
     ensures keeps { Used plan work.old work.new }
 {
-    let end = first_sentence(work, plan, f + 1);
-    let mut s = first_sentence(work, plan, f);
-    while s < end {
+    let own = sentences_of(work, plan, f);
+    for s in own.start..own.end {
         if covers(b, work, plan, s, i) {
             return true;
         }
-        s += 1;
     }
     false
 }
@@ -115,32 +108,21 @@ fn is_covered(b: &[u8], work: &mut [u32], plan: Plan, f: usize, i: usize) -> boo
     ensures answers { (w : Program) (x : Function) (y : Held) → Readable b.now w work.old plan → get_elem? w.functions f ≡ some x → get_elem? (sites_of w) i ≡ some y → is_listed true x.name y ≡ true → is_there (fell_of plan work.old) after_all y.sentence ≡ true → is_uncovered (is_there (fell_of plan work.old) after_all) x (sentences_before f w.functions) y.site.argument ≡ not result }
     ensures keeps { Used plan work.old work.new }
 {
-    if is_witnessed(work, plan, f, i) {
-        return true;
-    }
-    any_covers(b, work, plan, f, i)
+    is_witnessed(work, plan, f, i) || any_covers(b, work, plan, f, i)
 }
 
 // The line of the argument of the plain site i, a restriction of the f-th function.
-fn put_line(
-    b: &[u8],
-    work: &[u32],
-    plan: Plan,
-    f: usize,
-    i: usize,
-    out: &mut [u8],
-    at: usize,
-) -> usize
-    requires { SomeSite b.now work.now plan i × (f < plan.functions) × (at + 80000 ≤ limit) }
-    ensures written { (w : Program) (x : Function) (y : Held) → Readable b.now w work.now plan → get_elem? w.functions f ≡ some x → get_elem? (sites_of w) i ≡ some y → is_listed true x.name y ≡ true → Emitted out.old at (uncovered_line (uncovered_one x y)) result out.new }
-    ensures short { (at < result) × (result ≤ at + 80000) }
+fn put_line(b: &[u8], work: &[u32], plan: Plan, f: usize, i: usize, out: &mut Writer<'_>)
+    requires { SomeSite b.now work.now plan i × (f < plan.functions) × (out.old.filled + 80000 ≤ limit) }
+    ensures written { (w : Program) (x : Function) (y : Held) → Readable b.now w work.now plan → get_elem? w.functions f ≡ some x → get_elem? (sites_of w) i ≡ some y → is_listed true x.name y ≡ true → out.new ≡ written out.old (uncovered_line (uncovered_one x y)) }
+    ensures short { (out.old.filled < out.new.filled) × (out.new.filled ≤ out.old.filled + 80000) }
 {
-    let name = put_bytes(out, at, b"  ");
-    let arrow = put_name(b, work, plan, f, out, name);
-    let input = put_bytes(out, arrow, b" <- ");
+    out.put_bytes(b"  ");
+    put_name(b, work, plan, f, out);
+    out.put_bytes(b" <- ");
     let q = argument_of(b, work, plan, i);
-    let end = format_terms(out, input, &b[q..]);
-    put_byte(out, end, 10)
+    out.format_terms(&b[q..]);
+    out.put_byte(b'\n');
 }
 
 // Whether the arguments of the plain sites i and j have the same text.
@@ -155,16 +137,16 @@ fn same_argument(b: &[u8], work: &[u32], plan: Plan, i: usize, j: usize) -> bool
 
 // Whether the candidate, the plain site i of the f-th function, repeats the last one.
 fn repeats_last(b: &[u8], work: &[u32], plan: Plan, f: usize, i: usize, listed: Listed) -> bool
-    requires { SomeSite b.now work.now plan i × (f < plan.functions) × (listed.function < plan.functions) × ((w : Program) → Readable b.now w work.now plan → PlainAt w listed.function listed.item) }
-    ensures { (w : Program) (x : Function) (y : Held) → Readable b.now w work.now plan → get_elem? w.functions f ≡ some x → get_elem? (sites_of w) i ≡ some y → is_listed true x.name y ≡ true → result ≡ any (λ z. same_uncovered z (uncovered_one x y)) (last_uncovered w listed.function listed.item) }
+    requires { SomeSite b.now work.now plan i × (f < plan.functions) × LastIn listed.last f plan.sites × ((w : Program) → Readable b.now w work.now plan → LastPlain w listed.last) }
+    ensures { (w : Program) (x : Function) (y : Held) → Readable b.now w work.now plan → get_elem? w.functions f ≡ some x → get_elem? (sites_of w) i ≡ some y → is_listed true x.name y ≡ true → result ≡ any (λ z. same_uncovered z (uncovered_one x y)) (last_uncovered w listed.last) }
 {
-    if plan.sites <= listed.item {
-        return false;
+    match listed.last {
+        None => false,
+        Some(last) => {
+            same_function(b, work, plan, last.function, f)
+                && same_argument(b, work, plan, last.item, i)
+        }
     }
-    if !same_function(b, work, plan, listed.function, f) {
-        return false;
-    }
-    same_argument(b, work, plan, listed.item, i)
 }
 
 // Tells the candidate: a line, unless it repeats the last one.
@@ -174,27 +156,27 @@ fn put_candidate(
     plan: Plan,
     f: usize,
     i: usize,
-    out: &mut [u8],
+    out: &mut Writer<'_>,
     listed: Listed,
 ) -> Listed
-    requires { SomeSite b.now work.now plan i × (f < plan.functions) × (listed.function < plan.functions) × ((w : Program) → Readable b.now w work.now plan → PlainAt w listed.function listed.item) × (listed.at + 80000 ≤ limit) × (listed.count ≤ listed.at) }
-    ensures told { (w : Program) (x : Function) (y : Held) → Readable b.now w work.now plan → get_elem? w.functions f ≡ some x → get_elem? (sites_of w) i ≡ some y → is_listed true x.name y ≡ true → Uncovered w (uncovered_one x y ∷ []) out.old listed.at listed.count listed.function listed.item out.new result.at result.count result.function result.item }
-    ensures short { (result.at ≤ listed.at + 80000) × (result.count ≤ result.at) × (result.function ≤ f) }
+    requires { SomeSite b.now work.now plan i × (f < plan.functions) × LastIn listed.last f plan.sites × ((w : Program) → Readable b.now w work.now plan → LastPlain w listed.last) × (out.old.filled + 80000 ≤ limit) × (listed.count ≤ out.old.filled) }
+    ensures told { (w : Program) (x : Function) (y : Held) → Readable b.now w work.now plan → get_elem? w.functions f ≡ some x → get_elem? (sites_of w) i ≡ some y → is_listed true x.name y ≡ true → Uncovered w (uncovered_one x y ∷ []) out.old listed.count listed.last out.new result.count result.last }
+    ensures short { (out.new.filled ≤ out.old.filled + 80000) × (result.count ≤ out.new.filled) × LastIn result.last f plan.sites }
 {
-    if repeats_last(b, work, plan, f, i, listed) {
-        return Listed {
-            at: listed.at,
-            count: listed.count,
-            function: f,
-            item: i,
-        };
-    }
-    let at = put_line(b, work, plan, f, i, out, listed.at);
-    Listed {
-        at: at,
-        count: listed.count + 1,
+    let last = Some(Candidate {
         function: f,
         item: i,
+    });
+    if repeats_last(b, work, plan, f, i, listed) {
+        return Listed {
+            count: listed.count,
+            last,
+        };
+    }
+    put_line(b, work, plan, f, i, out);
+    Listed {
+        count: listed.count + 1,
+        last,
     }
 }
 
@@ -205,18 +187,15 @@ fn put_if_uncovered(
     plan: Plan,
     f: usize,
     i: usize,
-    out: &mut [u8],
+    out: &mut Writer<'_>,
     listed: Listed,
 ) -> Listed
-    requires { SomeSite b.now work.old plan i × (f < plan.functions) × (listed.function ≤ f) × ((w : Program) → Readable b.now w work.old plan → PlainAt w listed.function listed.item) × (listed.at + 80000 ≤ limit) × (listed.count ≤ listed.at) }
-    ensures told { (w : Program) (x : Function) (y : Held) → Readable b.now w work.old plan → get_elem? w.functions f ≡ some x → get_elem? (sites_of w) i ≡ some y → is_listed true x.name y ≡ true → Uncovered w (uncovered_at (is_there (fell_of plan work.old) after_all) (sites_of w) x (sentences_before f w.functions) i y) out.old listed.at listed.count listed.function listed.item out.new result.at result.count result.function result.item }
-    ensures short { (result.at ≤ listed.at + 80000) × (result.count ≤ result.at) × (result.function ≤ f) }
+    requires { SomeSite b.now work.old plan i × (f < plan.functions) × LastIn listed.last f plan.sites × ((w : Program) → Readable b.now w work.old plan → LastPlain w listed.last) × (out.old.filled + 80000 ≤ limit) × (listed.count ≤ out.old.filled) }
+    ensures told { (w : Program) (x : Function) (y : Held) → Readable b.now w work.old plan → get_elem? w.functions f ≡ some x → get_elem? (sites_of w) i ≡ some y → is_listed true x.name y ≡ true → Uncovered w (uncovered_at (is_there (fell_of plan work.old) after_all) (sites_of w) x (sentences_before f w.functions) i y) out.old listed.count listed.last out.new result.count result.last }
+    ensures short { (out.new.filled ≤ out.old.filled + 80000) × (result.count ≤ out.new.filled) × LastIn result.last f plan.sites }
     ensures keeps { Used plan work.old work.new }
 {
-    if !leads(work, plan, i, AFTER_ALL) {
-        return listed;
-    }
-    if is_covered(b, work, plan, f, i) {
+    if !leads(work, plan, i, AFTER_ALL) || is_covered(b, work, plan, f, i) {
         return listed;
     }
     put_candidate(b, work, plan, f, i, out, listed)
@@ -228,22 +207,22 @@ fn put_uncovered_in(
     work: &mut [u32],
     plan: Plan,
     f: usize,
-    out: &mut [u8],
+    out: &mut Writer<'_>,
     listed: Listed,
 ) -> Listed
-    requires { SomeReadable b.now work.old plan × (f < plan.functions) × (listed.function ≤ f) × ((w : Program) → Readable b.now w work.old plan → PlainAt w listed.function listed.item) × (listed.at + 8192 * 80000 ≤ limit) × (listed.count ≤ listed.at) }
-    ensures told { (w : Program) (x : Function) → Readable b.now w work.old plan → get_elem? w.functions f ≡ some x → Uncovered w (uncovered_in (is_there (fell_of plan work.old) after_all) (sites_of w) (sentences_before f w.functions) x) out.old listed.at listed.count listed.function listed.item out.new result.at result.count result.function result.item }
-    ensures short { (result.at ≤ listed.at + 8192 * 80000) × (result.count ≤ result.at) × (result.function ≤ f) }
+    requires { SomeReadable b.now work.old plan × (f < plan.functions) × LastIn listed.last f plan.sites × ((w : Program) → Readable b.now w work.old plan → LastPlain w listed.last) × (out.old.filled + 8192 * 80000 ≤ limit) × (listed.count ≤ out.old.filled) }
+    ensures told { (w : Program) (x : Function) → Readable b.now w work.old plan → get_elem? w.functions f ≡ some x → Uncovered w (uncovered_in (is_there (fell_of plan work.old) after_all) (sites_of w) (sentences_before f w.functions) x) out.old listed.count listed.last out.new result.count result.last }
+    ensures short { (out.new.filled ≤ out.old.filled + 8192 * 80000) × (result.count ≤ out.new.filled) × LastIn result.last f plan.sites }
     ensures keeps { Used plan work.old work.new }
 {
-    let links = links_of(plan);
-    let mut i = head_site(work, plan.functions, f, true);
-    let mut last = listed;
+    let links = plan.links();
+    let mut i = head_site(work, plan.functions, f, Kind::Plain);
+    let mut told = listed;
     while i < plan.sites {
-        last = put_if_uncovered(b, work, plan, f, i, out, last);
+        told = put_if_uncovered(b, work, plan, f, i, out, told);
         i = next_site(work, links, i);
     }
-    last
+    told
 }
 
 // The same, if a round would judge the f-th function: the others give nothing.
@@ -252,12 +231,12 @@ fn put_if_judged(
     work: &mut [u32],
     plan: Plan,
     f: usize,
-    out: &mut [u8],
+    out: &mut Writer<'_>,
     listed: Listed,
 ) -> Listed
-    requires { SomeReadable b.now work.old plan × (f < plan.functions) × (listed.function ≤ f) × ((w : Program) → Readable b.now w work.old plan → PlainAt w listed.function listed.item) × (listed.at + 8192 * 80000 ≤ limit) × (listed.count ≤ listed.at) }
-    ensures told { (w : Program) (x : Function) → Readable b.now w work.old plan → get_elem? w.functions f ≡ some x → Uncovered w (judged_only (is_judged (is_there (fell_of plan work.old) after_all) x.name (sites_of w)) (uncovered_in (is_there (fell_of plan work.old) after_all) (sites_of w) (sentences_before f w.functions) x)) out.old listed.at listed.count listed.function listed.item out.new result.at result.count result.function result.item }
-    ensures short { (result.at ≤ listed.at + 8192 * 80000) × (result.count ≤ result.at) × (result.function ≤ f) }
+    requires { SomeReadable b.now work.old plan × (f < plan.functions) × LastIn listed.last f plan.sites × ((w : Program) → Readable b.now w work.old plan → LastPlain w listed.last) × (out.old.filled + 8192 * 80000 ≤ limit) × (listed.count ≤ out.old.filled) }
+    ensures told { (w : Program) (x : Function) → Readable b.now w work.old plan → get_elem? w.functions f ≡ some x → Uncovered w (judged_only (is_judged (is_there (fell_of plan work.old) after_all) x.name (sites_of w)) (uncovered_in (is_there (fell_of plan work.old) after_all) (sites_of w) (sentences_before f w.functions) x)) out.old listed.count listed.last out.new result.count result.last }
+    ensures short { (out.new.filled ≤ out.old.filled + 8192 * 80000) × (result.count ≤ out.new.filled) × LastIn result.last f plan.sites }
     ensures keeps { Used plan work.old work.new }
 {
     if !is_judged(work, plan, f, AFTER_ALL) {
@@ -268,23 +247,19 @@ fn put_if_judged(
 
 // Every uncovered restriction as a line, neighbouring repeats left out. Functions of one name share their sites, so
 // there may be a line for each function and site.
-pub fn put_uncovered(b: &[u8], work: &mut [u32], plan: Plan, out: &mut [u8], at: usize) -> Listed
-    requires { SomeReadable b.now work.old plan × (at + 8192 * (8192 * 80000) ≤ limit) }
-    ensures told { (w : Program) → Readable b.now w work.old plan → Emitted out.old at (flat_map uncovered_line (runs_after same_uncovered [] (uncovered_told (is_there (fell_of plan work.old) after_all) (sites_of w) 0 w.functions))) result.at out.new }
-    ensures counted { (w : Program) → Readable b.now w work.old plan → result.count ≡ length (runs_after same_uncovered [] (uncovered_told (is_there (fell_of plan work.old) after_all) (sites_of w) 0 w.functions)) }
-    ensures short { result.at ≤ at + 8192 * (8192 * 80000) }
+pub fn put_uncovered(b: &[u8], work: &mut [u32], plan: Plan, out: &mut Writer<'_>) -> usize
+    requires { SomeReadable b.now work.old plan × (out.old.filled + 8192 * (8192 * 80000) ≤ limit) }
+    ensures told { (w : Program) → Readable b.now w work.old plan → out.new ≡ written out.old (flat_map uncovered_line (runs_after same_uncovered [] (uncovered_told (is_there (fell_of plan work.old) after_all) (sites_of w) 0 w.functions))) }
+    ensures counted { (w : Program) → Readable b.now w work.old plan → result ≡ length (runs_after same_uncovered [] (uncovered_told (is_there (fell_of plan work.old) after_all) (sites_of w) 0 w.functions)) }
+    ensures short { out.new.filled ≤ out.old.filled + 8192 * (8192 * 80000) }
     ensures keeps { Used plan work.old work.new }
 {
-    let mut last = Listed {
-        at: at,
+    let mut told = Listed {
         count: 0,
-        function: 0,
-        item: plan.sites,
+        last: None,
     };
-    let mut f: usize = 0;
-    while f < plan.functions {
-        last = put_if_judged(b, work, plan, f, out, last);
-        f += 1;
+    for f in 0..plan.functions {
+        told = put_if_judged(b, work, plan, f, out, told);
     }
-    last
+    told.count
 }

@@ -3,6 +3,7 @@ use native.Mathlib.Omega.{arith}
 use mathlib.Core.Path.{ap₂, ◌∙◌}
 use Rattle.patterns.specs.Names.{eq_bytes}
 use Rattle.report.proofs.Places.{function_of, named-at}
+use Rattle.symbols.proofs.Compared.{bytes_equal}
 use Rattle.report.proofs.alike.same_function.Goals as goal
 
 pub place_of-p-requires : goal.place_of-p-requires
@@ -25,4 +26,4 @@ pub returns : goal.returns
 returns c = λ w x y d e g.
     let p = named-at d c.args.f x e c.place_of-p.result c.place_of-p.ensures.0 in
     let q = named-at d c.args.g y g c.place_of-q.result c.place_of-q.ensures.0 in
-    c.same_bytes.ensures ∙ ap₂ eq_bytes (c.function_name.ensures p.stands ∙ p.is) (c.function_name-2.ensures q.stands ∙ q.is)
+    c.eq.ensures ∙ bytes_equal _ _ ∙ ap₂ eq_bytes (c.function_name.ensures p.stands ∙ p.is) (c.function_name-2.ensures q.stands ∙ q.is)

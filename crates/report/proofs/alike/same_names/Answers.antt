@@ -6,6 +6,7 @@ use Rattle.patterns.specs.Names.{same_name}
 use Rattle.report.proofs.Namesakes.{heads_differ, heads-meet}
 use Rattle.report.proofs.Places.{function_of, named-at}
 use Rattle.report.proofs.alike.same_names.Goals as goal
+use Rattle.report.proofs.alike.same_names.Goals.{then-head_site-plan-via-then-head_site-plan, then-head_site-plan-via-else-head_site-plan+then-head_site-plan-2}
 
 pub overflow_add-h : goal.overflow_add-h
 overflow_add-h c = let d = c.requires.0.readable.indexed in omega (arith, d.fits, d.small, c.requires.1)
@@ -33,18 +34,16 @@ returns-then-work-h c = λ w v x d e k.
 pub head_site-requires : goal.head_site-requires
 head_site-requires c = let d = c.requires.0.readable.indexed in omega (arith, d.fits, d.small, c.requires.2)
 
+pub head_site-requires-else-head_site-plan : goal.head_site-requires-else-head_site-plan
+head_site-requires-else-head_site-plan c = let d = c.requires.0.readable.indexed in omega (arith, d.fits, d.small, c.requires.2)
+
 pub returns-then-head_site-plan : goal.returns-then-head_site-plan
 returns-then-head_site-plan c = λ w v x d e k.
     let a = c.args in
-    heads-meet d.indexed a.g a.f v x e k c.if-work-h.false true c.head_site.result c.head_site.ensures.0 c.if-head_site-plan.true
-
-pub head_site-requires-2 : goal.head_site-requires-2
-head_site-requires-2 c = let d = c.requires.0.readable.indexed in omega (arith, d.fits, d.small, c.requires.2)
-
-pub returns-then-head_site-plan-2 : goal.returns-then-head_site-plan-2
-returns-then-head_site-plan-2 c = λ w v x d e k.
-    let a = c.args in
-    heads-meet d.indexed a.g a.f v x e k c.if-work-h.false false c.head_site-2.result c.head_site-2.ensures.0 c.if-head_site-plan-2.true
+    elim c.then-head_site-plan.branch [
+      | then-head_site-plan-via-then-head_site-plan z ↦ heads-meet d.indexed a.g a.f v x e k c.if-work-h.false true c.head_site.result c.head_site.ensures.0 z.if-head_site-plan.true
+      | then-head_site-plan-via-else-head_site-plan+then-head_site-plan-2 z ↦ heads-meet d.indexed a.g a.f v x e k c.if-work-h.false false z.head_site-else-head_site-plan.result z.head_site-else-head_site-plan.ensures.0 z.if-head_site-plan-2.true
+    ]
 
 pub place_of-p-requires : goal.place_of-p-requires
 place_of-p-requires c = let d = c.requires.0.readable.indexed in omega (arith, d.fits, d.small, c.requires.1)

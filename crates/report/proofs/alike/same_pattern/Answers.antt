@@ -5,10 +5,10 @@ use Rattle.report.proofs.Places.{sentence_of, pattern-at}
 use Rattle.report.proofs.alike.same_pattern.Goals as goal
 
 pub pattern_place-p-requires : goal.pattern_place-p-requires
-pattern_place-p-requires c = let d = c.requires.0.readable.indexed in (c.requires.1, omega (arith, d.fits), d.small)
+pattern_place-p-requires c = let d = c.requires.0.readable.indexed in (c.requires.1, (omega (arith, d.fits), d.small))
 
 pub pattern_place-q-requires : goal.pattern_place-q-requires
-pattern_place-q-requires c = let d = c.requires.0.readable.indexed in (c.requires.2, omega (arith, d.fits), d.small)
+pattern_place-q-requires c = let d = c.requires.0.readable.indexed in (c.requires.2, (omega (arith, d.fits), d.small))
 
 pub slice_bounds-same_text-count : goal.slice_bounds-same_text-count
 slice_bounds-same_text-count c = pattern-within c.args.b.now c.pattern_place-p.result ((let y = sentence_of c.requires.0.readable c.args.s c.requires.1 in

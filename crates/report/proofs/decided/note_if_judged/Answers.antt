@@ -1,7 +1,5 @@
 -- `report::decided::note_if_judged` meets its contract. Assumes nothing.
 use mathlib.Core.Path.{sym, ◌∙◌}
-use mathlib.Core.Bool.{true}
-use Rattle.cleaning.proofs.Meeting.{not_is}
 use Rattle.report.proofs.OpenNotes.{function_open, function_passed}
 use Rattle.report.proofs.decided.note_if_judged.Goals as goal
 
@@ -11,7 +9,7 @@ is_judged-requires c = (record { body = c.args.b.now; program = c.requires.0.pro
 pub returns-then-not-is_judged : goal.returns-then-not-is_judged
 returns-then-not-is_judged c =
     let a = c.args in
-    λ w x d e. function_passed w a.work.now a.plan a.f x (sym (c.is_judged.ensures a.b.now w x d.indexed e) ∙ not_is c.is_judged.result true c.if-not-is_judged.true-raw)
+    λ w x d e. function_passed w a.work.now a.plan a.f x (sym (c.is_judged.ensures a.b.now w x d.indexed e) ∙ c.if-not-is_judged.true)
 
 pub note_sentences-requires : goal.note_sentences-requires
 note_sentences-requires c = c.requires

@@ -1,5 +1,4 @@
 -- `report::decided::note_undecided` meets its contract. Assumes nothing.
-use Prim.Native.Nat.{◌-◌, ◌≤◌}
 use Rattle.program.specs.Syntax.{Program}
 use Rattle.report.specs.Emitting.{Readable}
 use Rattle.report.specs.Notes.{DecidedUpto}
@@ -7,7 +6,4 @@ use Rattle.report.proofs.decided.note_undecided.Given as goal
 
 -- The functions before f have been asked.
 abbrev pub invariant-loop-f : goal.invariant-loop-f
-invariant-loop-f l = (l.f ≤ l.plan.functions) × ((w : Program) → Readable l.b w l.initial.work l.plan → DecidedUpto w l.initial.work l.work l.plan l.f)
-
-abbrev pub decreases-loop-f : goal.decreases-loop-f
-decreases-loop-f l = l.plan.functions - l.f
+invariant-loop-f l = (w : Program) → Readable l.b w l.initial.work l.plan → DecidedUpto w l.initial.work l.work l.plan l.f

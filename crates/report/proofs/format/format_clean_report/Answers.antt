@@ -1,10 +1,10 @@
 -- `report::format::format_clean_report` meets its contract: the three texts stand one behind another, and the lent text ends as the writer leaves it.
-use mathlib.Core.Path.{sym, ap, ◌∙◌}
 use mathlib.Core.List.{◌++◌}
 use Rattle.cleaning.specs.Indexed.{fell_of}
 use Rattle.text.specs.Counts.{top_text, graph_text}
-use Rattle.text.specs.declared.writer.Writer.{Writer}
-use Rattle.text.proofs.Fill.{emitted-same, emitted-append}
+use Rattle.text.proofs.Written.{both, same, lent}
+use Rattle.meaning.specs.Report.{format_clean_report}
+use Rattle.told.specs.ToldReport.{told_report}
 use Rattle.report.specs.Format.{listed_text}
 use Rattle.report.proofs.Whole.{whole-listed}
 use Rattle.report.proofs.format.format_clean_report.Goals as goal
@@ -15,14 +15,9 @@ returns-clause-written c = λ w d k.
     let g = c.args.figures in
     let fell = fell_of p c.args.work.now in
     let i = d.removing.readable.indexed in
-    let t₁ = top_text p.functions p.sentences g.after c.args.rounds g.removed in
+    let t₁ = top_text p.functions p.sentences g.after c.args.rounds g.removed.count in
     let t₂ = listed_text w c.args.root fell c.args.rounds in
-    let t₃ = graph_text p.functions g.undecided g.uncovered g.uncharacterised in
-    let e₁ = c.write_top.ensures.0 in
-    let e₂ = c.write_lists.ensures.0 w d in
-    let e₃ = c.write_graph.ensures in
-    let named = sym (ap (λ (v : Writer). v.text.ghost_name) e₃ ∙ (ap (λ (v : Writer). v.text.ghost_name) e₂ ∙ ap (λ (v : Writer). v.text.ghost_name) e₁)) in
-    emitted-same (whole-listed w fell c.args.rounds p c.args.root g d.figures i.functions i.sentences k)
-    (emitted-append t₁ (t₂ ++ t₃) (record { after = ap (λ (v : Writer). v.filled) e₁; left = ap (λ (v : Writer). v.text.now) e₁ })
-    (emitted-append t₂ t₃ (record { after = ap (λ (v : Writer). v.filled) e₂; left = ap (λ (v : Writer). v.text.now) e₂ })
-    (record { after = ap (λ (v : Writer). v.filled) e₃; left = c.out-1.given.1.1 named ∙ ap (λ (v : Writer). v.text.now) e₃ })))
+    let t₃ = graph_text p.functions g.undecided.count g.uncovered.count g.uncharacterised.count in
+    lent _ (format_clean_report (told_report w fell c.args.rounds))
+    (same _ (whole-listed w fell c.args.rounds p c.args.root g d.figures i.functions i.sentences k) (both _ t₁ (t₂ ++ t₃) c.put_top.ensures.0 (both _ t₂ t₃ (c.put_lists.ensures.written w d) c.put_graph.ensures)))
+    search

@@ -16,28 +16,36 @@ use Rattle.cleaning.proofs.Meeting.{list_at, site-below}
 use Rattle.report.specs.Emitting.{Readable}
 use Rattle.report.proofs.leading.argument_of.Goals as goal
 
-pub calls_of-requires : goal.calls_of-requires
-calls_of-requires c = let d = c.requires.readable.indexed in (omega (arith, d.fits, d.small), omega (arith, d.fits, d.small))
+pub calls-requires : goal.calls-requires
+calls-requires c = let d = c.requires.readable.indexed in (omega (arith, d.fits, d.small), omega (arith, d.fits, d.small))
 
 pub overflow_add-k : goal.overflow_add-k
-overflow_add-k c = let d = c.requires.readable.indexed in omega (arith, d.fits, d.small, c.calls_of.ensures, (let it : c.args.i < c.args.plan.sites = let a = c.requires in site-below a.readable.indexed a.place a.function a.is c.args.i a.site a.at in it))
+overflow_add-k c =
+    let below : c.args.i < c.args.plan.sites = let a = c.requires in site-below a.readable.indexed a.place a.function a.is c.args.i a.site a.at in
+    let d = c.requires.readable.indexed in omega (arith, d.fits, d.small, c.calls.ensures, below)
 
 pub offset_bounds-work-k : goal.offset_bounds-work-k
-offset_bounds-work-k c = let d = c.requires.readable.indexed in omega (arith, d.fits, d.small, c.calls_of.ensures, (let it : c.args.i < c.args.plan.sites = let a = c.requires in site-below a.readable.indexed a.place a.function a.is c.args.i a.site a.at in it))
+offset_bounds-work-k c =
+    let below : c.args.i < c.args.plan.sites = let a = c.requires in site-below a.readable.indexed a.place a.function a.is c.args.i a.site a.at in
+    let d = c.requires.readable.indexed in omega (arith, d.fits, d.small, c.calls.ensures, below)
 
 pub bounds-work-k : goal.bounds-work-k
-bounds-work-k c = let d = c.requires.readable.indexed in omega (arith, d.fits, d.small, c.calls_of.ensures, (let it : c.args.i < c.args.plan.sites = let a = c.requires in site-below a.readable.indexed a.place a.function a.is c.args.i a.site a.at in it))
+bounds-work-k c =
+    let below : c.args.i < c.args.plan.sites = let a = c.requires in site-below a.readable.indexed a.place a.function a.is c.args.i a.site a.at in
+    let d = c.requires.readable.indexed in omega (arith, d.fits, d.small, c.calls.ensures, below)
 
 pub site_argument-requires : goal.site_argument-requires
 site_argument-requires c =
+    let the_let : (w : Program) (f : ℕ) (x : Function) → let a = c.args in Readable a.b.now w a.work.now a.plan → get_elem? w.functions f ≡ some x → ListAt a.b.now a.work.now c.calls.result (c.calls.result + a.plan.sites) a.plan.sites (list_head true (get_or a.work.now (heads a.plan + f) 0)) x.name (sites_of w) = λ w f x d e. list_at d.indexed f x e c.calls.result c.calls.ensures in
     let a = c.requires in
-    call_of ((let it : (w : Program) (f : ℕ) (x : Function) → let a = c.args in Readable a.b.now w a.work.now a.plan → get_elem? w.functions f ≡ some x → ListAt a.b.now a.work.now c.calls_of.result (c.calls_of.result + a.plan.sites) a.plan.sites (list_head true (get_or a.work.now (heads a.plan + f) 0)) x.name (sites_of w) = λ w f x d e. list_at d.indexed f x e c.calls_of.result c.calls_of.ensures in it) a.program a.place a.function a.readable a.is) (record { is = a.at; listed = a.listed })
+    call_of (the_let a.program a.place a.function a.readable a.is) (record { is = a.at; listed = a.listed })
 
 pub returns : goal.returns
 returns c =
+    let the_let : (w : Program) (f : ℕ) (x : Function) → let a = c.args in Readable a.b.now w a.work.now a.plan → get_elem? w.functions f ≡ some x → ListAt a.b.now a.work.now c.calls.result (c.calls.result + a.plan.sites) a.plan.sites (list_head true (get_or a.work.now (heads a.plan + f) 0)) x.name (sites_of w) = λ w f x d e. list_at d.indexed f x e c.calls.result c.calls.ensures in
     let r = c.site_argument in (
       r.ensures.0,
       λ w f x y d e g l.
-          let t = reading_of ((let it : (w : Program) (f : ℕ) (x : Function) → let a = c.args in Readable a.b.now w a.work.now a.plan → get_elem? w.functions f ≡ some x → ListAt a.b.now a.work.now c.calls_of.result (c.calls_of.result + a.plan.sites) a.plan.sites (list_head true (get_or a.work.now (heads a.plan + f) 0)) x.name (sites_of w) = λ w f x d e. list_at d.indexed f x e c.calls_of.result c.calls_of.ensures in it) w f x d e) (record { is = g; listed = l }) r.result (r.ensures.1 (call_of ((let it : (w : Program) (f : ℕ) (x : Function) → let a = c.args in Readable a.b.now w a.work.now a.plan → get_elem? w.functions f ≡ some x → ListAt a.b.now a.work.now c.calls_of.result (c.calls_of.result + a.plan.sites) a.plan.sites (list_head true (get_or a.work.now (heads a.plan + f) 0)) x.name (sites_of w) = λ w f x d e. list_at d.indexed f x e c.calls_of.result c.calls_of.ensures in it) w f x d e) (record { is = g; listed = l }))) in
+          let t = reading_of (the_let w f x d e) (record { is = g; listed = l }) r.result (r.ensures.1 (call_of (the_let w f x d e) (record { is = g; listed = l }))) in
           record { reading = record { terms = t.terms; rest = t.rest; is = sym (part_rest c.args.b.now r.result) ∙ t.is; valid = t.valid }; is = refl },
     )

@@ -1,11 +1,10 @@
 -- `report::leading::put_if_leads` meets its contract. Assumes nothing.
 use Prim.Native.Nat.{ℕ}
 use native.Mathlib.Omega.{arith}
-use mathlib.Core.Bool.{Bool, false, true}
+use mathlib.Core.Bool.{Bool, true}
 use mathlib.Core.Option.{some}
 use mathlib.Core.Path.{ap, sym, ◌∙◌, ◌≡◌}
 use lib.ListN.{get_elem?}
-use Rattle.cleaning.proofs.Meeting.{not_is}
 use Rattle.told.specs.History.{is_there}
 use Rattle.cleaning.specs.Indexed.{fell_of}
 use Rattle.told.specs.Numbered.{sites_of, Held}
@@ -13,7 +12,7 @@ use Rattle.program.specs.Syntax.{Function, Program}
 use Rattle.told.specs.Calls.{is_listed}
 use Rattle.report.specs.Emitting.{Readable}
 use Rattle.report.specs.Leading.{angled_if, is_leading}
-use Rattle.text.proofs.Fill.{emitted-nothing, emitted-same}
+use Rattle.text.proofs.Written.{written-nothing, same}
 use Rattle.report.proofs.leading.put_if_leads.Goals as goal
 
 pub leads-requires : goal.leads-requires
@@ -21,21 +20,25 @@ leads-requires c =
     let a = c.requires.0 in
     record { body = c.args.b.now; program = a.program; indexed = a.readable.indexed; place = a.place; function = a.function; is = a.is; site = a.site; at = a.at; listed = a.listed }
 
-pub returns-then-not-leads : goal.returns-then-not-leads
+pub returns-else-leads : goal.returns-else-leads
 unfolding angled_if
-returns-then-not-leads c = record {
-  written = λ w f x y d e g l.
-      emitted-same (ap (λ (t : Bool). angled_if t y.site.argument) (sym (not_is c.leads.result true c.if-not-leads.true-raw) ∙ (let it : (w : Program) (f : ℕ) (x : Function) (y : Held) → let a = c.args in Readable a.b.now w a.work.now a.plan → get_elem? w.functions f ≡ some x → get_elem? (sites_of w) a.i ≡ some y → is_listed true x.name y ≡ true → c.leads.result ≡ is_leading (is_there (fell_of a.plan a.work.now) a.round) x.name (sites_of w) a.i y = λ w f x y d e g l. c.leads.ensures c.args.b.now w f x y d e g l in it) w f x y d e g l)) (emitted-nothing c.args.out.now c.args.at);
-  short = omega arith;
-}
+returns-else-leads c =
+    let the_let : (w : Program) (f : ℕ) (x : Function) (y : Held) → let a = c.args in Readable a.b.now w a.work.now a.plan → get_elem? w.functions f ≡ some x → get_elem? (sites_of w) a.i ≡ some y → is_listed true x.name y ≡ true → c.leads.result ≡ is_leading (is_there (fell_of a.plan a.work.now) a.round) x.name (sites_of w) a.i y = λ w f x y d e g l. c.leads.ensures c.args.b.now w f x y d e g l in
+    record {
+      written = λ w f x y d e g l.
+          same c.args.out.now (ap (λ (t : Bool). angled_if t y.site.argument) (sym (c.if-leads.false) ∙ the_let w f x y d e g l)) (written-nothing c.args.out.now);
+      short = omega arith;
+    }
 
 pub put_restriction-requires : goal.put_restriction-requires
 put_restriction-requires c = c.requires
 
-pub returns : goal.returns
+pub returns-then-leads : goal.returns-then-leads
 unfolding angled_if
-returns c = record {
-  written = λ w f x y d e g l.
-      emitted-same (ap (λ (t : Bool). angled_if t y.site.argument) (sym (not_is c.leads.result false c.if-not-leads.false-raw) ∙ (let it : (w : Program) (f : ℕ) (x : Function) (y : Held) → let a = c.args in Readable a.b.now w a.work.now a.plan → get_elem? w.functions f ≡ some x → get_elem? (sites_of w) a.i ≡ some y → is_listed true x.name y ≡ true → c.leads.result ≡ is_leading (is_there (fell_of a.plan a.work.now) a.round) x.name (sites_of w) a.i y = λ w f x y d e g l. c.leads.ensures c.args.b.now w f x y d e g l in it) w f x y d e g l)) (c.put_restriction.ensures.written w f x y d e g l);
-  short = c.put_restriction.ensures.short;
-}
+returns-then-leads c =
+    let the_let : (w : Program) (f : ℕ) (x : Function) (y : Held) → let a = c.args in Readable a.b.now w a.work.now a.plan → get_elem? w.functions f ≡ some x → get_elem? (sites_of w) a.i ≡ some y → is_listed true x.name y ≡ true → c.leads.result ≡ is_leading (is_there (fell_of a.plan a.work.now) a.round) x.name (sites_of w) a.i y = λ w f x y d e g l. c.leads.ensures c.args.b.now w f x y d e g l in
+    record {
+      written = λ w f x y d e g l.
+          same c.args.out.now (ap (λ (t : Bool). angled_if t y.site.argument) (sym (c.if-leads.true) ∙ the_let w f x y d e g l)) (c.put_restriction.ensures.written w f x y d e g l);
+      short = c.put_restriction.ensures.short;
+    }

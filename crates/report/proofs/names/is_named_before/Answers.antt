@@ -8,7 +8,7 @@ use Rattle.report.proofs.Uncharacterised.{names_to, none_before, found_before, n
 use Rattle.report.proofs.names.is_named_before.Goals as goal
 
 pub loop-g-init : goal.loop-g-init
-loop-g-init c = (omega arith, λ w x d e. none_before (λ n. same_name n x.name) c.args.root w)
+loop-g-init c = λ w x d e. none_before (λ n. same_name n x.name) c.args.root w
 
 pub is_namesake-requires : goal.is_namesake-requires
 is_namesake-requires c = (c.requires.0, omega (arith, c.loop-g-test.true, c.requires.1), c.requires.1)
@@ -18,21 +18,13 @@ returns-then-is_namesake c = λ w x d e.
     let y = function_of d c.loop-g.g (omega (arith, c.loop-g-test.true, c.requires.1)) in
     found_before (λ n. same_name n x.name) c.args.root w c.loop-g.g c.args.f y.element y.is c.loop-g-test.true (sym (c.is_namesake.ensures w y.element x d y.is e) ∙ c.if-is_namesake.true)
 
-pub overflow_add-g : goal.overflow_add-g
-overflow_add-g c = omega (arith, c.loop-g-test.true, c.requires.1, c.requires.0.readable.indexed.fits, c.requires.0.readable.indexed.small)
-
-pub loop-g-smaller : goal.loop-g-smaller
-loop-g-smaller c = omega (arith, c.loop-g-test.true)
-
 pub loop-g-preserved : goal.loop-g-preserved
-loop-g-preserved c = (
-  omega (arith, c.loop-g-test.true),
-  λ w x d e.
-      let y = function_of d c.loop-g.g (omega (arith, c.loop-g-test.true, c.requires.1)) in
-      none_yet (λ n. same_name n x.name) c.args.root w c.loop-g.g y.element y.is (c.loop-g.invariant.1 w x d e) (sym (c.is_namesake.ensures w y.element x d y.is e) ∙ c.if-is_namesake.false),
-)
+loop-g-preserved c =
+    λ w x d e.
+    let y = function_of d c.loop-g.g (omega (arith, c.loop-g-test.true, c.requires.1)) in
+    none_yet (λ n. same_name n x.name) c.args.root w c.loop-g.g y.element y.is (c.loop-g.invariant w x d e) (sym (c.is_namesake.ensures w y.element x d y.is e) ∙ c.if-is_namesake.false)
 
 pub returns : goal.returns
 returns c = λ w x d e.
-    let q : c.loop-g.g ≡ c.args.f = omega (arith, c.loop-g-test.false, c.loop-g.invariant.0) in
-    sym (c.loop-g.invariant.1 w x d e) ∙ ap (λ (n : ℕ). any (λ m. same_name m x.name) (names_to c.args.root w n)) q
+    let q : c.loop-g.g ≡ c.args.f = omega (arith, c.loop-g-test.false) in
+    sym (c.loop-g.invariant w x d e) ∙ ap (λ (n : ℕ). any (λ m. same_name m x.name) (names_to c.args.root w n)) q

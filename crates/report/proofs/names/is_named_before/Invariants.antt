@@ -1,5 +1,4 @@
 -- `report::names::is_named_before` meets its contract. Assumes nothing.
-use Prim.Native.Nat.{◌-◌, ◌≤◌}
 use mathlib.Core.Path.{◌≡◌}
 use mathlib.Core.Bool.{false}
 use mathlib.Core.Option.{some}
@@ -12,7 +11,4 @@ use Rattle.report.proofs.Uncharacterised.{names_to}
 use Rattle.report.proofs.names.is_named_before.Given as goal
 
 abbrev pub invariant-loop-g : goal.invariant-loop-g
-invariant-loop-g l = (l.g ≤ l.f) × ((w : Program) (x : Function) → Readable l.b w l.work l.plan → get_elem? w.functions l.f ≡ some x → any (λ n. same_name n x.name) (names_to l.root w l.g) ≡ false)
-
-abbrev pub decreases-loop-g : goal.decreases-loop-g
-decreases-loop-g l = l.f - l.g
+invariant-loop-g l = (w : Program) (x : Function) → Readable l.b w l.work l.plan → get_elem? w.functions l.f ≡ some x → any (λ n. same_name n x.name) (names_to l.root w l.g) ≡ false

@@ -14,5 +14,5 @@ same_names-requires c = c.requires
 pub returns-then-is_uncharacterised : goal.returns-then-is_uncharacterised
 returns-then-is_uncharacterised c = λ w y x d e g. c.same_names.ensures w y x d e g ∙ ap (λ (t : Bool). t && same_name y.name x.name) (sym c.if-is_uncharacterised.true ∙ c.is_uncharacterised.ensures c.args.b.now w y d.indexed e)
 
-pub returns : goal.returns
-returns c = λ w y x d e g. ap (λ (t : Bool). t && same_name y.name x.name) (sym c.if-is_uncharacterised.false ∙ c.is_uncharacterised.ensures c.args.b.now w y d.indexed e)
+pub returns-else-is_uncharacterised : goal.returns-else-is_uncharacterised
+returns-else-is_uncharacterised c = λ w y x d e g. c.if-is_uncharacterised.false ∙ ap (λ (t : Bool). t && same_name y.name x.name) (sym c.if-is_uncharacterised.false ∙ c.is_uncharacterised.ensures c.args.b.now w y d.indexed e)

@@ -19,6 +19,6 @@ returns-then-is_uncharacterised c = λ w x d e.
     ap not (c.is_named_before.ensures w x d e)
     ∙ ap (λ (t : Bool). t && not (any (λ n. same_name n x.name) (names_to c.args.root w c.args.f))) (sym c.if-is_uncharacterised.true ∙ c.is_uncharacterised.ensures c.args.b.now w x d.indexed e)
 
-pub returns : goal.returns
+pub returns-else-is_uncharacterised : goal.returns-else-is_uncharacterised
 unfolding is_newly_uncharacterised
-returns c = λ w x d e. ap (λ (t : Bool). t && not (any (λ n. same_name n x.name) (names_to c.args.root w c.args.f))) (sym c.if-is_uncharacterised.false ∙ c.is_uncharacterised.ensures c.args.b.now w x d.indexed e)
+returns-else-is_uncharacterised c = λ w x d e. c.if-is_uncharacterised.false ∙ ap (λ (t : Bool). t && not (any (λ n. same_name n x.name) (names_to c.args.root w c.args.f))) (sym c.if-is_uncharacterised.false ∙ c.is_uncharacterised.ensures c.args.b.now w x d.indexed e)

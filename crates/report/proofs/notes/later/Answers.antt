@@ -1,15 +1,14 @@
 -- `report::notes::later` meets its contract. Assumes nothing.
-use Rattle.report.proofs.SiteNotes.{later_first_never, later_second_never, later_second, later_first}
+use mathlib.Core.Logic.{inl, inr}
+use mathlib.Core.Path.{ap, ◌∙◌}
+use Rattle.report.specs.Notes.{stands_in}
+use Rattle.report.proofs.SiteNotes.{later_first_never, later_second_never, later_most}
 use Rattle.report.proofs.notes.later.Goals as goal
 
-pub returns-then-a-eq0 : goal.returns-then-a-eq0
-returns-then-a-eq0 c = let a = c.args in λ r. later_first_never a.a a.b r c.if-a-eq0.true
-
 pub returns-then-b-eq0 : goal.returns-then-b-eq0
-returns-then-b-eq0 c = let a = c.args in λ r. later_second_never a.a a.b r c.if-b-eq0.true
+returns-then-b-eq0 c = λ r.
+    let a = c.args in
+    elim c.if-b-eq0.either [ inl e ↦ later_first_never a.a a.b r e | inr e ↦ later_second_never a.a a.b r e.1 ]
 
-pub returns-then-a-b : goal.returns-then-a-b
-returns-then-a-b c = let a = c.args in λ r. later_second a.a a.b r c.if-a-eq0.false c.if-a-b.true
-
-pub returns : goal.returns
-returns c = let a = c.args in λ r. later_first a.a a.b r c.if-b-eq0.false c.if-a-b.false
+pub returns-else-b-eq0 : goal.returns-else-b-eq0
+returns-else-b-eq0 c = λ r. ap (λ v. stands_in v r) c.max.ensures ∙ later_most c.args.a c.args.b r c.if-b-eq0.false.0 c.if-b-eq0.false.1

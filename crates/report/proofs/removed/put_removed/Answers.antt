@@ -1,46 +1,53 @@
 use native.Mathlib.Omega.{arith}
-use mathlib.Core.Path.{refl, ◌∙◌}
+use Prim.Native.Nat.{◌+◌}
+use Rattle.program.specs.Syntax.{Program}
 use Rattle.cleaning.specs.Indexed.{fell_of}
+use Rattle.told.specs.ToldReport.{fallen_from}
+use Rattle.report.specs.Removed.{Listed, Removing}
 use Rattle.report.proofs.RemovedLines.{listed-firsts, rounds-last, rounds-start, rounds_step}
-use Rattle.text.proofs.Fill.{emitted-length}
 use Rattle.report.proofs.removed.put_removed.Goals as goal
 
 pub loop-round-init : goal.loop-round-init
 loop-round-init c = (
-  refl,
   (omega arith, omega arith, omega arith, omega arith),
-  λ w d o a j h. rounds-start w ((fell_of c.args.plan c.args.work.now)) c.args.rounds h,
+  λ w d o j h. rounds-start w ((fell_of c.args.plan c.args.work.now)) c.args.rounds h,
 )
 
-pub put_removed_round-l-requires : goal.put_removed_round-l-requires
-put_removed_round-l-requires c =
-    let b = c.loop-round.invariant.1 in
+pub put_removed_round-count-requires : goal.put_removed_round-count-requires
+put_removed_round-count-requires c =
+    let b = c.loop-round.invariant.0 in
     (record { program = c.requires.0.program; rounds = c.args.rounds; removing = c.requires.0.removing }, b.0, omega (arith, c.loop-round-test.true, b.2, c.requires.1, c.requires.2), omega (arith, c.loop-round-test.true, b.3, c.requires.1))
-
-pub overflow_add-round : goal.overflow_add-round
-overflow_add-round c = omega (arith, c.loop-round-test.true, c.requires.1)
-
-pub loop-round-smaller : goal.loop-round-smaller
-loop-round-smaller c = omega (arith, c.loop-round-test.true)
 
 pub loop-round-preserved : goal.loop-round-preserved
 loop-round-preserved c = (
-  emitted-length (c.put_removed_round-l.ensures.written c.requires.0.program c.args.rounds c.requires.0.removing).text ∙ c.loop-round.invariant.0,
-  let b = c.loop-round.invariant.1 in
-      let k = c.put_removed_round-l.ensures.short in
+  let b = c.loop-round.invariant.0 in
+      let k = c.put_removed_round-count.ensures.short in
       (omega arith, omega (arith, c.loop-round-test.true), omega (arith, b.2, k.0), omega (arith, b.3, k.1)),
-  λ w d o a j h. c.loop-round.invariant.2 w d o a j (rounds_step w ((fell_of c.args.plan c.args.work.now)) c.args.rounds c.loop-round.round c.loop-round-test.true (c.put_removed_round-l.ensures.written w c.args.rounds d) h),
+  λ w d o j h. c.loop-round.invariant.1 w d o j (rounds_step w ((fell_of c.args.plan c.args.work.now)) c.args.rounds c.loop-round.round c.loop-round-test.true (c.put_removed_round-count.ensures.written w c.args.rounds d) h),
 )
-
-pub shape_of-out : goal.shape_of-out
-shape_of-out c = c.loop-round.invariant.0
 
 pub returns : goal.returns
 returns c = record {
-  written = λ w d. (listed-firsts w ((fell_of c.args.plan c.args.work.now)) c.args.rounds (c.loop-round.invariant.2 w d c.loop-round.out c.loop-round.place c.loop-round.lines (rounds-last w ((fell_of c.args.plan c.args.work.now)) c.args.rounds c.loop-round.round (omega (arith, c.loop-round-test.false)) c.loop-round.out c.loop-round.place c.loop-round.lines))).0;
+  written = λ w d. (listed-firsts w ((fell_of c.args.plan c.args.work.now)) c.args.rounds (c.loop-round.invariant.1 w d c.loop-round.out c.loop-round.count (rounds-last w ((fell_of c.args.plan c.args.work.now)) c.args.rounds c.loop-round.round (omega (arith, c.loop-round-test.false)) c.loop-round.out c.loop-round.count))).0;
   counted = λ w d.
-      let e = (listed-firsts w ((fell_of c.args.plan c.args.work.now)) c.args.rounds (c.loop-round.invariant.2 w d c.loop-round.out c.loop-round.place c.loop-round.lines (rounds-last w ((fell_of c.args.plan c.args.work.now)) c.args.rounds c.loop-round.round (omega (arith, c.loop-round-test.false)) c.loop-round.out c.loop-round.place c.loop-round.lines))).1 in
+      let e = (listed-firsts w ((fell_of c.args.plan c.args.work.now)) c.args.rounds (c.loop-round.invariant.1 w d c.loop-round.out c.loop-round.count (rounds-last w ((fell_of c.args.plan c.args.work.now)) c.args.rounds c.loop-round.round (omega (arith, c.loop-round-test.false)) c.loop-round.out c.loop-round.count))).1 in
       omega (arith, e);
-  short = let b = c.loop-round.invariant.1 in
+  short = let b = c.loop-round.invariant.0 in
       omega (arith, b.1, b.2, c.requires.1);
 }
+
+-- The same after the last round.
+pub returns-2 : goal.returns-2
+returns-2 c =
+    let a = c.args in
+    let fell = fell_of a.plan a.work.now in
+    let l = c.put_removed_round-count in
+    let told : (w : Program) → Removing a.b.now w a.work.now a.plan a.rounds → Listed w fell a.rounds (fallen_from w fell 1 a.rounds) a.out.now 0 l.new.out l.result
+    = λ w d.
+    c.loop-round.invariant.1 w d l.new.out l.result
+    (rounds_step w fell a.rounds c.loop-round.round c.loop-round-test.true (l.ensures.written w a.rounds d) (rounds-last w fell a.rounds (c.loop-round.round + 1) (omega arith) l.new.out l.result)) in
+    record {
+      written = λ w d. (listed-firsts w fell a.rounds (told w d)).0;
+      counted = λ w d. omega (arith, (listed-firsts w fell a.rounds (told w d)).1);
+      short = omega (arith, c.loop-round.invariant.0.2, l.ensures.short.0, c.requires.1);
+    }

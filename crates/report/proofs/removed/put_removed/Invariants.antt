@@ -1,23 +1,17 @@
 -- `report::removed::put_removed` meets its contract. Assumes nothing.
-use Prim.Native.Nat.{◌*◌, ◌+◌, ◌-◌, ◌<◌, ℕ, ◌≤◌}
-use mathlib.Core.List.{List}
-use mathlib.Core.Path.{◌≡◌}
-use lib.ListN.{length}
+use Prim.Native.Nat.{◌*◌, ◌+◌, ◌<◌, ℕ, ◌≤◌}
 use Rattle.cleaning.specs.Indexed.{fell_of}
 use Rattle.told.specs.ToldReport.{fallen_from}
 use Rattle.program.specs.Syntax.{Program}
 use Rattle.report.proofs.RemovedLines.{rest_rounds}
 use Rattle.report.specs.Removed.{Listed, Removing, longest}
+use Rattle.text.specs.declared.writer.Writer.{Writer}
 use Rattle.report.proofs.removed.put_removed.Given as goal
 
 -- With the lines of what is left, it is the whole.
 abbrev pub invariant-loop-round : goal.invariant-loop-round
 invariant-loop-round l =
-    (length l.out ≡ length l.initial.out)
-    × ((0 < l.round) × (l.round ≤ l.rounds + 1) × (l.place + 4096 * longest ≤ l.at + l.round * (4096 * longest)) × (l.lines + 4096 ≤ l.round * 4096))
-    × ((w : Program) → Removing l.b w l.work l.plan l.rounds → (d : List ℕ) (a j : ℕ)
-    → Listed w (fell_of l.plan l.work) l.rounds (rest_rounds w (fell_of l.plan l.work) l.rounds l.round) l.out l.place l.lines d a j
-    → Listed w (fell_of l.plan l.work) l.rounds (fallen_from w (fell_of l.plan l.work) 1 l.rounds) l.initial.out l.at 0 d a j)
-
-abbrev pub decreases-loop-round : goal.decreases-loop-round
-decreases-loop-round l = l.rounds + 1 - l.round
+    ((0 < l.round) × (l.round ≤ l.rounds + 1) × (l.out.filled + 4096 * longest ≤ l.initial.out.filled + l.round * (4096 * longest)) × (l.count + 4096 ≤ l.round * 4096))
+    × ((w : Program) → Removing l.b w l.work l.plan l.rounds → (d : Writer) (j : ℕ)
+    → Listed w (fell_of l.plan l.work) l.rounds (rest_rounds w (fell_of l.plan l.work) l.rounds l.round) l.out l.count d j
+    → Listed w (fell_of l.plan l.work) l.rounds (fallen_from w (fell_of l.plan l.work) 1 l.rounds) l.initial.out 0 d j)

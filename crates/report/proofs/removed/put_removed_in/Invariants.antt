@@ -1,16 +1,15 @@
 -- `report::removed::put_removed_in` meets its contract. Assumes nothing.
-use Prim.Native.Nat.{◌*◌, ◌+◌, ◌-◌, suc, ℕ, ◌≤◌}
-use mathlib.Core.List.{List}
+use Prim.Native.Nat.{◌*◌, ◌+◌, suc, ℕ, ◌≤◌}
 use mathlib.Core.Option.{some}
 use mathlib.Core.Path.{◌≡◌}
-use lib.ListN.{get_elem?, length}
+use lib.ListN.{get_elem?}
 use Rattle.cleaning.specs.Indexed.{fell_of}
 use Rattle.told.specs.ToldReport.{fallen_of}
 use Rattle.program.specs.Syntax.{Function, Program}
-use Rattle.index.specs.Layout.{lines}
 use Rattle.told.specs.Numbered.{sentences_before}
 use Rattle.report.proofs.RemovedLines.{rest_of}
 use Rattle.report.specs.Removed.{Listed, Removing, longest}
+use Rattle.text.specs.declared.writer.Writer.{Writer}
 use Rattle.report.proofs.removed.put_removed_in.Given as goal
 
 -- Where the walk is, and how far the lines can have come.
@@ -21,11 +20,7 @@ Reached w f at count s place lines =
 -- With the lines of what is left, it is the whole.
 abbrev pub invariant-loop-s : goal.invariant-loop-s
 invariant-loop-s l =
-    (length l.out ≡ length l.initial.out)
-    × ((w : Program) (n : ℕ) → Removing l.b w l.work l.plan n → Reached w l.f l.at l.count l.s l.place l.lines)
-    × ((w : Program) (n : ℕ) (x : Function) → Removing l.b w l.work l.plan n → get_elem? w.functions l.f ≡ some x → (d : List ℕ) (a j : ℕ)
-    → Listed w (fell_of l.plan l.work) n (rest_of w (fell_of l.plan l.work) n l.round l.f x l.s) l.out l.place l.lines d a j
-    → Listed w (fell_of l.plan l.work) n (fallen_of (fell_of l.plan l.work) l.round x (sentences_before l.f w.functions) x.sentences) l.initial.out l.at l.count d a j)
-
-abbrev pub decreases-loop-s : goal.decreases-loop-s
-decreases-loop-s l = l.end - l.s
+    ((w : Program) (n : ℕ) → Removing l.b w l.work l.plan n → Reached w l.f l.initial.out.filled l.count l.s l.out.filled l.all)
+    × ((w : Program) (n : ℕ) (x : Function) → Removing l.b w l.work l.plan n → get_elem? w.functions l.f ≡ some x → (d : Writer) (j : ℕ)
+    → Listed w (fell_of l.plan l.work) n (rest_of w (fell_of l.plan l.work) n l.round l.f x l.s) l.out l.all d j
+    → Listed w (fell_of l.plan l.work) n (fallen_of (fell_of l.plan l.work) l.round x (sentences_before l.f w.functions) x.sentences) l.initial.out l.count d j)

@@ -26,12 +26,6 @@ returns-then-repeated_in c = λ w n x y d l e g.
     let o = (c.repeated_in.ensures w v.element x y d v.is e g).yes c.if-repeated_in.true in
     sym (repeated_printing w (fell_of a.plan a.work.now) n (record { round = a.round; function = x; number = a.s; sentence = y }) c.loop-g.g v.element v.is o.0 l o.1)
 
-pub overflow_add-g : goal.overflow_add-g
-overflow_add-g c = let d = c.requires.0.readable.indexed in omega (arith, c.loop-g-test.true, d.fits, d.small)
-
-pub loop-g-smaller : goal.loop-g-smaller
-loop-g-smaller c = omega (arith, c.loop-g-test.true)
-
 pub loop-g-preserved : goal.loop-g-preserved
 loop-g-preserved c = λ w x y d e g.
     let a = c.args in

@@ -1,5 +1,5 @@
 -- `report::repeated::is_repeated` meets its contract. Assumes nothing.
-use Prim.Native.Nat.{◌-◌, ◌<◌, suc, ℕ}
+use Prim.Native.Nat.{◌<◌, suc, ℕ}
 use mathlib.Core.Bool.{true}
 use mathlib.Core.Option.{some}
 use mathlib.Core.Path.{◌≡◌}
@@ -18,6 +18,3 @@ abbrev pub invariant-loop-g : goal.invariant-loop-g
 invariant-loop-g l =
     (w : Program) (x : Function) (y : Sentence) → Readable l.b w l.work l.plan → get_elem? w.functions l.f ≡ some x → get_elem? (own_sentences w.functions) l.s ≡ some y
     → (h : ℕ) (v : Function) → h < l.g → get_elem? w.functions h ≡ some v → same_name v.name x.name ≡ true → NonePrinting (fell_of l.plan l.work) l.round l.s y.pattern (own_sentences w.functions) (sentences_before h w.functions) (sentences_before (suc h) w.functions)
-
-abbrev pub decreases-loop-g : goal.decreases-loop-g
-decreases-loop-g l = l.plan.functions - l.g

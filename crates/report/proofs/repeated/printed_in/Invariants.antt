@@ -1,5 +1,5 @@
 -- `report::repeated::printed_in` meets its contract. Assumes nothing.
-use Prim.Native.Nat.{◌-◌, ◌≤◌}
+use Prim.Native.Nat.{◌≤◌}
 use mathlib.Core.Option.{some}
 use mathlib.Core.Path.{◌≡◌}
 use lib.ListN.{get_elem?}
@@ -16,6 +16,3 @@ abbrev pub invariant-loop-t : goal.invariant-loop-t
 invariant-loop-t l =
     (w : Program) (y : Sentence) → Readable l.b w l.work l.plan → get_elem? (own_sentences w.functions) l.s ≡ some y
     → (sentences_before l.g w.functions ≤ l.t) × NonePrinting (fell_of l.plan l.work) l.round l.s y.pattern (own_sentences w.functions) (sentences_before l.g w.functions) l.t
-
-abbrev pub decreases-loop-t : goal.decreases-loop-t
-decreases-loop-t l = l.end - l.t

@@ -4,7 +4,7 @@ use native.Mathlib.Omega.{arith}
 use mathlib.Core.Path.{ap, ◌∙◌}
 use lib.ListN.{length}
 use Rattle.index.proofs.Functions.{function-room, name-at}
-use Rattle.text.proofs.Fill.{emitted-same}
+use Rattle.text.proofs.Written.{same, count}
 use Rattle.report.proofs.Places.{named-fits, function_of, named-at}
 use Rattle.report.proofs.sentence.put_name.Goals as goal
 
@@ -30,24 +30,28 @@ name_part-requires c = name-at c.args.b.now c.place_of-p.result ((let x = functi
     named-at c.requires.0.readable c.args.f x.element x.is c.place_of-p.result c.place_of-p.ensures.0)).stands
 
 pub put_bytes-requires : goal.put_bytes-requires
-put_bytes-requires c = omega (
-  arith,
-  (let it : length c.name_part.result.now ≤ 32768 = let g = (let x = function_of c.requires.0.readable c.args.f c.requires.1 in
-      named-at c.requires.0.readable c.args.f x.element x.is c.place_of-p.result c.place_of-p.ensures.0) in
-      omega (arith, ap length (c.name_part.ensures (name-at c.args.b.now c.place_of-p.result g.stands)), ap length g.is, named-fits g, c.requires.0.readable.short) in it),
-  c.requires.2,
-)
+put_bytes-requires c =
+    let within : length c.name_part.result.now ≤ 32768 = let g = (let x = function_of c.requires.0.readable c.args.f c.requires.1 in
+    named-at c.requires.0.readable c.args.f x.element x.is c.place_of-p.result c.place_of-p.ensures.0) in
+    omega (arith, ap length (c.name_part.ensures (name-at c.args.b.now c.place_of-p.result g.stands)), ap length g.is, named-fits g, c.requires.0.readable.short) in
+    omega (
+      arith,
+      within,
+      c.requires.2,
+    )
 
 pub returns : goal.returns
-returns c = record {
-  written = λ w x d e.
-      let g = named-at d c.args.f x e c.place_of-p.result c.place_of-p.ensures.0 in
-      emitted-same (c.name_part.ensures (name-at c.args.b.now c.place_of-p.result g.stands) ∙ g.is) c.put_bytes.ensures;
-  short = omega (
-    arith,
-    (let it : length c.name_part.result.now ≤ 32768 = let g = (let x = function_of c.requires.0.readable c.args.f c.requires.1 in
-        named-at c.requires.0.readable c.args.f x.element x.is c.place_of-p.result c.place_of-p.ensures.0) in
-        omega (arith, ap length (c.name_part.ensures (name-at c.args.b.now c.place_of-p.result g.stands)), ap length g.is, named-fits g, c.requires.0.readable.short) in it),
-    c.put_bytes.ensures.after,
-  );
-}
+returns c =
+    let within : length c.name_part.result.now ≤ 32768 = let g = (let x = function_of c.requires.0.readable c.args.f c.requires.1 in
+    named-at c.requires.0.readable c.args.f x.element x.is c.place_of-p.result c.place_of-p.ensures.0) in
+    omega (arith, ap length (c.name_part.ensures (name-at c.args.b.now c.place_of-p.result g.stands)), ap length g.is, named-fits g, c.requires.0.readable.short) in
+    record {
+      written = λ w x d e.
+          let g = named-at d c.args.f x e c.place_of-p.result c.place_of-p.ensures.0 in
+          same c.args.out.now (c.name_part.ensures (name-at c.args.b.now c.place_of-p.result g.stands) ∙ g.is) c.put_bytes.ensures;
+      short = omega (
+        arith,
+        within,
+        ap count c.put_bytes.ensures,
+      );
+    }

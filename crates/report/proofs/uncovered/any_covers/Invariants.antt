@@ -1,5 +1,4 @@
 -- `report::uncovered::any_covers` meets its contract. Assumes nothing.
-use Prim.Native.Nat.{◌-◌}
 use mathlib.Core.Path.{◌≡◌}
 use mathlib.Core.Bool.{true}
 use mathlib.Core.Option.{some}
@@ -20,6 +19,3 @@ invariant-loop-s l =
     ((w : Program) (x : Function) (y : Held) → Readable l.b w l.initial.work l.plan → get_elem? w.functions l.f ≡ some x → get_elem? (sites_of w) l.i ≡ some y → is_listed true x.name y ≡ true → is_there (fell_of l.plan l.initial.work) after_all y.sentence ≡ true
     → Uncovering (is_there (fell_of l.plan l.initial.work) after_all) w l.f y.site.argument l.s)
     × Used l.plan l.initial.work l.work
-
-abbrev pub decreases-loop-s : goal.decreases-loop-s
-decreases-loop-s l = l.end - l.s

@@ -1,12 +1,10 @@
 -- `report::uncovered::put_if_judged` meets its contract. Assumes nothing.
 use native.Mathlib.Omega.{arith}
 use mathlib.Core.Path.{sym, ◌∙◌}
-use mathlib.Core.Bool.{true, false}
 use Rattle.told.specs.Numbered.{sentences_before, sites_of}
 use Rattle.told.specs.History.{is_there, after_all}
 use Rattle.cleaning.specs.Indexed.{fell_of}
 use Rattle.told.specs.ToldReport.{uncovered_in}
-use Rattle.cleaning.proofs.Meeting.{not_is}
 use Rattle.cleaning.proofs.Room.{used_same}
 use Rattle.report.proofs.Telling.{only_judged, none_judged}
 use Rattle.report.proofs.UncoveredLoops.{uncovered-nothing, uncovered-same}
@@ -18,8 +16,8 @@ is_judged-requires c = (record { body = c.args.b.now; program = c.requires.0.pro
 pub returns-then-not-is_judged : goal.returns-then-not-is_judged
 returns-then-not-is_judged c = let a = c.args in record {
   told = λ w x d e.
-      uncovered-same (none_judged (uncovered_in ((is_there (fell_of c.args.plan c.args.work.now) after_all)) (sites_of w) (sentences_before a.f w.functions) x) (sym (c.is_judged.ensures a.b.now w x d.indexed e) ∙ not_is c.is_judged.result true c.if-not-is_judged.true-raw))
-      (uncovered-nothing w a.out.now a.listed.at a.listed.count a.listed.function a.listed.item);
+      uncovered-same (none_judged (uncovered_in ((is_there (fell_of c.args.plan c.args.work.now) after_all)) (sites_of w) (sentences_before a.f w.functions) x) (sym (c.is_judged.ensures a.b.now w x d.indexed e) ∙ c.if-not-is_judged.true))
+      (uncovered-nothing w a.out.now a.listed.count a.listed.last);
   short = (omega arith, c.requires.5, c.requires.2);
   keeps = used_same;
 }
@@ -30,7 +28,7 @@ put_uncovered_in-requires c = c.requires
 pub returns : goal.returns
 returns c = let a = c.args in record {
   told = λ w x d e.
-      uncovered-same (only_judged (uncovered_in ((is_there (fell_of c.args.plan c.args.work.now) after_all)) (sites_of w) (sentences_before a.f w.functions) x) (sym (c.is_judged.ensures a.b.now w x d.indexed e) ∙ not_is c.is_judged.result false c.if-not-is_judged.false-raw))
+      uncovered-same (only_judged (uncovered_in ((is_there (fell_of c.args.plan c.args.work.now) after_all)) (sites_of w) (sentences_before a.f w.functions) x) (sym (c.is_judged.ensures a.b.now w x d.indexed e) ∙ c.if-not-is_judged.false))
       (c.put_uncovered_in.ensures.told w x d e);
   short = c.put_uncovered_in.ensures.short;
   keeps = c.put_uncovered_in.ensures.keeps;

@@ -2,24 +2,21 @@
 use Prim.Native.Nat.{ℕ, suc, ◌+◌, ◌/◌, ◌≤◌, ◌<◌}
 use native.Mathlib.Omega.{arith}
 use mathlib.Core.Path.{◌≡◌, refl, sym, ap, ap₂, subst, ◌∙◌}
+use mathlib.Core.Logic.{◌⊎◌, inl, inr}
 use mathlib.Core.Bool.{Bool, true, false, cond}
 use mathlib.Core.List.{List, [], ◌∷◌}
 use lib.Dec.{ltb}
 use lib.ListN.{length, get_or}
 use borrow.Author.Tests.{le-leb, lt-leb, le-ltb}
+use Rattle.std.specs.Int.{div_ceil}
 use Rattle.program.specs.Decode.{Answer, sized, decode}
 use Rattle.image.specs.Parts.{Accepted}
 use Rattle.program.specs.Encode.{encode}
 use Rattle.program.specs.Bytes.{Bytes}
-use Rattle.reader.specs.Tally.{checked_of}
-use Rattle.reader.specs.Steps.{refusal}
-use Rattle.reader.specs.declared.check.Checked.{Checked}
-use Rattle.program.specs.declared.Refusal.{Refusal}
 use Rattle.meaning.specs.Cleaning.{clean_residual_program}
 use Rattle.meaning.specs.CleanReport.{clean_report}
 use Rattle.meaning.specs.Report.{format_clean_report}
-use Rattle.answers.specs.declared.CleanAnswer.{CleanAnswer}
-use Rattle.answers.specs.CleanAnswers.{Lent, Left, clean_refused, cleaned_to, refusing, written, zeroed, writing, clean_decoded, entries_for, clean_answer, lending}
+use Rattle.answers.specs.CleanAnswers.{CleanAnswer, Lent, Left, clean_refused, cleaned_to, refusing, written, zeroed, writing, clean_decoded, entries_for, clean_answer, lending}
 use Rattle.answers.specs.Packed.{clean_fields, CleanFits}
 use Rattle.program.proofs.RoundTrip.{decode-encode, encode-decode}
 use Rattle.meaning.proofs.Fewer.{cleaned_valid}
@@ -83,13 +80,17 @@ module _ (image output work report : List ℕ) where
     fits = refused-fits n p h k;
   }
 
-  pub ended-short : length image < 12 → Ended image output work report (clean_refused 1 0) output work report
+  ended-short : length image < 12 → Ended image output work report (clean_refused 1 0) output work report
   unfolding refusing untouched
   ended-short l = ended-refusing 1 0 (omega arith) (omega arith) (clean_refuses image (lending output work report) 1 0 (CleanRefuses.by_1 (sized-short image l)))
 
-  pub ended-long : 32768 < length image → Ended image output work report (clean_refused 1 0) output work report
+  ended-long : 32768 < length image → Ended image output work report (clean_refused 1 0) output work report
   unfolding refusing untouched
   ended-long l = ended-refusing 1 0 (omega arith) (omega arith) (clean_refuses image (lending output work report) 1 0 (CleanRefuses.by_1 (sized-long image l)))
+
+  pub ended_size : (length image < 12) ⊎ ((12 ≤ length image) × (32768 < length image)) → Ended image output work report (clean_refused 1 0) output work report
+  ended_size (inl l) = ended-short l
+  ended_size (inr l) = ended-long l.1
 
   module _ (least : 12 ≤ length image) (most : length image ≤ 32768) where
     pub ended-output : length output < length image → Ended image output work report (clean_refused 2 0) output work report
@@ -123,6 +124,10 @@ module _ (image output work report : List ℕ) where
           fits = subst CleanFits (sym (w.answers work)) (writing-fits _ _ (lending output work report) (omega (arith, accepted-small _ _ (decode-encode (clean_residual_program a.program) (cleaned_valid a.program (encode-decode image a.program bytes a.is).1)))) w.short);
         }
 
+-- Entries are counted with the last bytes rounded up.
+pub rounded_up : (n : ℕ) → div_ceil n 4 ≡ (n + 3) / 4
+rounded_up n = omega arith
+
 -- Work whose every entry is zero.
 pub all_zero : (work work' : List ℕ) → length work' ≡ length work → ((k : ℕ) → k < length work → get_or work' k 0 ≡ 0) → work' ≡ zeroed work
 unfolding zeroed
@@ -130,12 +135,3 @@ all_zero [] [] e h = refl
 all_zero [] (y ∷ m) e h = absurd (omega (arith, e))
 all_zero (x ∷ l) [] e h = absurd (omega (arith, e))
 all_zero (x ∷ l) (y ∷ m) e h = ap₂ (λ (z : ℕ) (r : List ℕ). z ∷ r) (h 0 (omega arith)) (all_zero l m (omega (arith, e)) (λ k u. h (suc k) (omega (arith, u))))
-
--- What check says of an image that it refuses.
-pub refused-is : (image : List ℕ) (v : Checked) (f : Refusal) → v ≡ checked_of (decode image) → v ≡ Checked.Refused f → decode image ≡ Answer.refused f.number f.place
-unfolding checked_of
-refused-is image v f e q = by (decode image) refl (sym e ∙ q)
-  where
-    by : (a : Answer) → decode image ≡ a → checked_of a ≡ Checked.Refused f → decode image ≡ Answer.refused f.number f.place
-    by (Answer.refused n p) u z = let y : refusal n p ≡ f = cc in u ∙ ap (λ (x : Refusal). Answer.refused x.number x.place) y
-    by (Answer.accepted w) u z = absurd (let y : ◌≡◌ {A = ℕ} 0 1 = cc in omega arith)

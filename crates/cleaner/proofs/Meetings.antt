@@ -2,10 +2,10 @@
 use Prim.Native.Nat.{ℕ, ◌-◌, ◌<◌, ◌≤◌}
 use native.Mathlib.Omega.{arith}
 use mathlib.Core.Path.{◌≡◌, refl, sym, ap, ◌∙◌}
-use mathlib.Core.Bool.{Bool, true, false, not, true≢false}
 use mathlib.Core.List.{List, []}
 use lib.ListN.{length}
 use borrow.Author.Tests.{lt-ltb, le-ltb}
+use Rattle.std.specs.Prelude.{Ok}
 use Rattle.program.specs.Syntax.{Terms}
 use Rattle.patterns.specs.declared.Verdict.{Verdict}
 use Rattle.patterns.specs.declared.Verdict.TheVariants.{Disjoint, Overlap, Unknown}
@@ -13,10 +13,8 @@ use Rattle.patterns.specs.declared.Found.{Found}
 use Rattle.patterns.specs.Marks.{put_expression}
 use Rattle.patterns.specs.Search.{patterns_overlap, spent, sequence, start}
 use Rattle.patterns.specs.Meet.{meet}
-use Rattle.overlap.specs.Steps.{is_overlap}
 use Rattle.text.specs.Fill.{Emitted}
 use Rattle.text.proofs.Fill.{filled-empty, filled-start}
-use Rattle.answers.specs.declared.ExpressionAnswer.{ExpressionAnswer}
 use Rattle.answers.specs.CleanAnswers.{written}
 use Rattle.answers.specs.ExpressionAnswers.{ExpressionLeft, expression_refused, refusing_expression, of_verdict, shared_expression, share_patterns}
 use Rattle.cleaner.specs.Shared.{leaving}
@@ -25,23 +23,10 @@ use Rattle.cleaner.specs.Shared.{leaving}
 pub counted : (t : List ℕ) (r : ℕ) (last : List ℕ) → Emitted [] 0 t r last → (r ≡ length t) × (last ≡ [])
 counted t r last e = (omega (arith, e.after), e.left ∙ filled-empty t 0)
 
-pub not_taken : (t u : Bool) → not t ≡ true → t ≡ u → u ≡ false
-not_taken true u e f = absurd (true≢false (sym e))
-not_taken false u e f = sym f
-
-pub not_left : (t u : Bool) → not t ≡ false → t ≡ u → u ≡ true
-not_left true u e f = sym f
-not_left false u e f = absurd (true≢false e)
-
-not_overlap : (v : Verdict) → is_overlap v ≡ false → (m : List ℕ) → (f : Verdict → List ℕ) → f Disjoint ≡ m → f Unknown ≡ m → f v ≡ m
+not_overlap : (v : Verdict) → (v ≡ Overlap → ⊥) → (m : List ℕ) → (f : Verdict → List ℕ) → f Disjoint ≡ m → f Unknown ≡ m → f v ≡ m
 not_overlap Disjoint h m f e g = e
-not_overlap Overlap h m f e g = absurd (true≢false h)
+not_overlap Overlap h m f e g = absurd (h refl)
 not_overlap Unknown h m f e g = g
-
-is_overlapping : (v : Verdict) → is_overlap v ≡ true → v ≡ Overlap
-is_overlapping Disjoint h = absurd (true≢false (sym h))
-is_overlapping Overlap h = refl
-is_overlapping Unknown h = absurd (true≢false (sym h))
 
 module _ (a b : Terms) (q : Found) (asked : q ≡ sequence start a b) (lent : List ℕ) where
   verdict-is : q.verdict ≡ patterns_overlap a b
@@ -53,26 +38,26 @@ module _ (a b : Terms) (q : Found) (asked : q ≡ sequence start a b) (lent : Li
   spent-is = ap (λ (z : Found). 4096 - z.fuel) asked
 
   abbrev told : ℕ → List ℕ → ExpressionLeft
-  told n bytes = leaving (ExpressionAnswer.Compared (record { verdict = q.verdict; spent = 4096 - q.fuel; length = n })) bytes
+  told n bytes = leaving (Ok (record { verdict = q.verdict; spent = 4096 - q.fuel; length = n })) bytes
 
   fitting : (s : List ℕ) → shared_expression a b ≡ s → length s ≤ length lent → told (length s) (written s lent) ≡ share_patterns a b lent
   unfolding share_patterns
   fitting s e l =
-      ap (λ (v : Verdict). leaving (ExpressionAnswer.Compared (record { verdict = v; spent = 4096 - q.fuel; length = length s })) (written s lent)) verdict-is
-      ∙ ap (λ (n : ℕ). leaving (ExpressionAnswer.Compared (record { verdict = patterns_overlap a b; spent = n; length = length s })) (written s lent)) spent-is
-      ∙ ap (λ (t : List ℕ). leaving (ExpressionAnswer.Compared (record { verdict = patterns_overlap a b; spent = spent a b; length = length t })) (written t lent)) (sym e)
+      ap (λ (v : Verdict). leaving (Ok (record { verdict = v; spent = 4096 - q.fuel; length = length s })) (written s lent)) verdict-is
+      ∙ ap (λ (n : ℕ). leaving (Ok (record { verdict = patterns_overlap a b; spent = n; length = length s })) (written s lent)) spent-is
+      ∙ ap (λ (t : List ℕ). leaving (Ok (record { verdict = patterns_overlap a b; spent = spent a b; length = length t })) (written t lent)) (sym e)
       ∙ sym (rw (le-ltb (length lent) (length (shared_expression a b)) (omega (arith, l, ap length e))))
 
-  pub nothing_shared : is_overlap q.verdict ≡ false → told 0 lent ≡ share_patterns a b lent
+  pub nothing_shared : (q.verdict ≡ Overlap → ⊥) → told 0 lent ≡ share_patterns a b lent
   unfolding shared_expression of_verdict written
   nothing_shared h =
       let e : shared_expression a b ≡ [] = ap (λ (v : Verdict). of_verdict v (meet a b)) (sym verdict-is) ∙ not_overlap q.verdict h [] (λ v. of_verdict v (meet a b)) refl refl in
       fitting [] e (omega arith)
 
-  module _ (h : is_overlap q.verdict ≡ true) where
+  module _ (h : q.verdict ≡ Overlap) where
     met : shared_expression a b ≡ put_expression (meet a b) []
     unfolding shared_expression of_verdict
-    met = ap (λ (v : Verdict). of_verdict v (meet a b)) (sym verdict-is ∙ is_overlapping q.verdict h)
+    met = ap (λ (v : Verdict). of_verdict v (meet a b)) (sym verdict-is ∙ h)
 
     pub too_short : (n : ℕ) → n ≡ length (put_expression (meet a b) []) → length lent < n → leaving (expression_refused 17 0) lent ≡ share_patterns a b lent
     unfolding share_patterns refusing_expression

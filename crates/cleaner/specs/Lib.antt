@@ -4,3 +4,4 @@ pub mod Delivery
 pub mod Done
 pub mod Parts
 pub mod Shared
+pub mod Two

@@ -5,7 +5,7 @@ use Rattle.program.specs.Encode.{encode}
 use Rattle.meaning.specs.Cleaning.{clean_residual_program}
 use Rattle.meaning.specs.CleanReport.{clean_report}
 use Rattle.meaning.specs.Report.{format_clean_report}
-use Rattle.answers.specs.declared.CleanAnswer.{CleanAnswer}
+use Rattle.answers.specs.CleanAnswers.{CleanAnswer}
 use Rattle.answers.specs.CleanAnswers.{lending, Lent, Left, writing}
 
 -- The image and the text of w, written into what is lent.

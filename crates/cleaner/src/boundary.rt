@@ -6,8 +6,8 @@ ghost use Rattle.answers.specs.ExpressionAnswers.{expression_answer, pack_expres
 ghost use Rattle.answers.specs.Packed.{packed, FieldsFit, pack_clean, pack_overlap, CleanFits};
 
 use crate::{clean, overlap, overlap_expression};
-use answers::{CleanAnswer, ExpressionAnswer, OverlapAnswer};
 use patterns::Verdict;
+use program::Refusal;
 
 // Bits 0 to 7 the refusal's number or 0, 8 to 23 the middle, 24 to 63 the rest.
 fn pack(number: u64, middle: u64, rest: u64) -> u64
@@ -15,6 +15,14 @@ fn pack(number: u64, middle: u64, rest: u64) -> u64
     ensures { result ≡ packed number middle rest }
 {
     number + 256 * middle + 16777216 * rest
+}
+
+// A refusal: the middle is 0, the rest the place.
+fn pack_refusal(f: Refusal) -> u64
+    requires { FieldsFit f.number 0 f.place }
+    ensures { result ≡ packed f.number 0 f.place }
+{
+    pack(u64::from(f.number), 0, f.place as u64)
 }
 
 // Clean: the middle is the length of the output, the rest the report's; or number and place.
@@ -25,35 +33,27 @@ pub fn showclean_clean(img: &[u8], output: &mut [u8], work: &mut [u32], report: 
     ensures reports { report.new ≡ (clean_answer img.now (lending output.old work.old report.old)).lent.report }
     ensures fits { CleanFits (clean_answer img.now (lending output.old work.old report.old)).answer }
 {
-    let answer = clean(img, output, work, report);
-    match answer {
-        CleanAnswer::Cleaned(l) => pack(0, l.output as u64, l.report as u64),
-        CleanAnswer::Refused(f) => pack(f.number as u64, 0, f.place as u64),
+    match clean(img, output, work, report) {
+        Ok(l) => pack(0, l.output as u64, l.report as u64),
+        Err(f) => pack_refusal(f),
     }
 }
 
-// A verdict as a number.
+// A verdict as a number: they are declared in document 01's order. A `From` could stand only in `patterns`, below the definition
+// `verdict_number`, and could not have this contract.
 fn verdict_number(verdict: Verdict) -> u64
     ensures { result ≡ verdict_number verdict }
 {
-    match verdict {
-        Verdict::Disjoint => 0,
-        Verdict::Overlap => 1,
-        Verdict::Unknown => 2,
-    }
+    verdict as u64
 }
 
 // Overlap: the middle is the verdict, the rest the entries spent; or number and place.
 pub fn showclean_overlap(img: &[u8], first: usize, second: usize) -> u64
     ensures { result ≡ pack_overlap (overlap_answer img.now first second) }
 {
-    let answer = overlap(img, first, second);
-    match answer {
-        OverlapAnswer::Compared(c) => {
-            let verdict = c.verdict;
-            pack(0, verdict_number(verdict), c.spent as u64)
-        }
-        OverlapAnswer::Refused(f) => pack(f.number as u64, 0, f.place as u64),
+    match overlap(img, first, second) {
+        Ok(c) => pack(0, verdict_number(c.verdict), u64::from(c.spent)),
+        Err(f) => pack_refusal(f),
     }
 }
 
@@ -68,13 +68,11 @@ pub fn showclean_overlap_expression(
     ensures answered { result ≡ pack_expression (expression_answer img.now first second expression.old).answer }
     ensures writes { expression.new ≡ (expression_answer img.now first second expression.old).lent }
 {
-    let answer = overlap_expression(img, first, second, expression);
-    match answer {
-        ExpressionAnswer::Compared(c) => {
-            let verdict = c.verdict;
-            let middle = verdict_number(verdict) + 4 * c.spent as u64;
+    match overlap_expression(img, first, second, expression) {
+        Ok(c) => {
+            let middle = verdict_number(c.verdict) + 4 * u64::from(c.spent);
             pack(0, middle, c.length as u64)
         }
-        ExpressionAnswer::Refused(f) => pack(f.number as u64, 0, f.place as u64),
+        Err(f) => pack_refusal(f),
     }
 }

@@ -13,7 +13,7 @@ use report::decided::note_undecided;
 use report::notes::note_repeats;
 
 // The root's place, and how many rounds there were.
-#[derive(Clone, Copy)]
+#[derive(Clone, Copy, Debug, PartialEq, Eq)]
 pub struct Rounds {
     pub root: usize,
     pub rounds: usize,

@@ -6,9 +6,9 @@ ghost use Rattle.meaning.specs.Dispatch.{residual_dispatches_dynamically};
 ghost use Rattle.cleaner.specs.Writing.{Wrote};
 ghost use Rattle.cleaner.specs.Alone.{SomeAlone};
 
-use crate::refused;
-use answers::{CleanAnswer, Lengths};
+use answers::Lengths;
 use output::bytes::copy_bytes;
+use program::Refusal;
 use report::format::format_unchanged;
 
 // Same bytes out, and the report of it, if there is room for that.
@@ -18,18 +18,18 @@ pub fn leave_alone(
     report: &mut [u8],
     functions: usize,
     sentences: usize,
-) -> CleanAnswer
+) -> Result<Lengths, Refusal>
     requires { SomeAlone img.now functions sentences × (length img.now ≤ length output.old) }
     ensures { (a : Accepted img.now) → residual_dispatches_dynamically a.program ≡ true → length a.program.functions ≡ functions → own_sentence_count a.program.functions ≡ sentences → Wrote a.program output.old report.old result output.new report.new }
 {
     let needed = format_unchanged(&mut report[..0], functions, sentences);
     if report.len() < needed {
-        return refused(12, needed);
+        return Refusal::at(12, needed);
     }
     format_unchanged(report, functions, sentences);
     let n = img.len();
     copy_bytes(img, 0, output, 0, n);
-    CleanAnswer::Cleaned(Lengths {
+    Ok(Lengths {
         output: n,
         report: needed,
     })

@@ -24,41 +24,48 @@ clean_rounds-rounds-requires c =
 
 pub note_repeats-requires : goal.note_repeats-requires
 note_repeats-requires c =
+    let the_let : (w : Program) → let a = c.args in ProgramListed a.b.now w a.work.now a.plan → ProgramLinked a.b.now w c.link_program.new.work a.plan × (length c.link_program.new.work ≡ length a.work.now) = λ w h. c.link_program.ensures w h in
+    let let_3 : (w : Program) → let a = c.args in ProgramListed a.b.now w a.work.now a.plan → RoundsReady a.b.now w c.link_program.new.work a.plan c.root_place-root.result = λ w h. let l = (the_let w h).0 in
+    linked_ready l (root-found w (c.root_place-root.ensures w.functions (linked_tabled l))) in
+    let let_4 : (w : Program) → let a = c.args in ProgramListed a.b.now w a.work.now a.plan → Indexed a.b.now w c.mark_left.new.work a.plan = λ w h. let r = let_3 w h in
+    marks-indexed c.mark_left.ensures.others (only_rounds_indexed (c.clean_rounds-rounds.ensures w r).only r.indexed) in
     let p = c.requires.0 in
     record {
       body = c.args.b.now;
       program = p.program;
-      indexed = (let it : (w : Program) → let a = c.args in ProgramListed a.b.now w a.work.now a.plan → Indexed a.b.now w c.mark_left.new.work a.plan = λ w h. let r = (let it : (w : Program) → let a = c.args in ProgramListed a.b.now w a.work.now a.plan → RoundsReady a.b.now w c.link_program.new.work a.plan c.root_place-root.result = λ w h. let l = ((let it : (w : Program) → let a = c.args in ProgramListed a.b.now w a.work.now a.plan → ProgramLinked a.b.now w c.link_program.new.work a.plan × (length c.link_program.new.work ≡ length a.work.now) = λ w h. c.link_program.ensures w h in it) w h).0 in
-          linked_ready l (root-found w (c.root_place-root.ensures w.functions (linked_tabled l))) in it) w h in
-          marks-indexed c.mark_left.ensures.others (only_rounds_indexed (c.clean_rounds-rounds.ensures w r).only r.indexed) in it) p.program p.listed;
+      indexed = let_4 p.program p.listed;
     }
 
 pub note_undecided-requires : goal.note_undecided-requires
 note_undecided-requires c =
+    let the_let : (w : Program) → let a = c.args in ProgramListed a.b.now w a.work.now a.plan → ProgramLinked a.b.now w c.link_program.new.work a.plan × (length c.link_program.new.work ≡ length a.work.now) = λ w h. c.link_program.ensures w h in
+    let let_3 : (w : Program) → let a = c.args in ProgramListed a.b.now w a.work.now a.plan → RoundsReady a.b.now w c.link_program.new.work a.plan c.root_place-root.result = λ w h. let l = (the_let w h).0 in
+    linked_ready l (root-found w (c.root_place-root.ensures w.functions (linked_tabled l))) in
+    let let_4 : (w : Program) → let a = c.args in ProgramListed a.b.now w a.work.now a.plan → Indexed a.b.now w c.mark_left.new.work a.plan = λ w h. let r = let_3 w h in
+    marks-indexed c.mark_left.ensures.others (only_rounds_indexed (c.clean_rounds-rounds.ensures w r).only r.indexed) in
+    let let_5 : (w : Program) → let a = c.args in ProgramListed a.b.now w a.work.now a.plan → Readable a.b.now w c.note_repeats.new.work a.plan = λ w h. let r = let_3 w h in
+    noted-readable c.requires.1 r (c.clean_rounds-rounds.ensures w r) c.mark_left.ensures.others (c.note_repeats.ensures c.args.b.now w (let_4 w h)) in
     let p = c.requires.0 in
     record {
       program = p.program;
-      readable = (let it : (w : Program) → let a = c.args in ProgramListed a.b.now w a.work.now a.plan → Readable a.b.now w c.note_repeats.new.work a.plan = λ w h. let r = (let it : (w : Program) → let a = c.args in ProgramListed a.b.now w a.work.now a.plan → RoundsReady a.b.now w c.link_program.new.work a.plan c.root_place-root.result = λ w h. let l = ((let it : (w : Program) → let a = c.args in ProgramListed a.b.now w a.work.now a.plan → ProgramLinked a.b.now w c.link_program.new.work a.plan × (length c.link_program.new.work ≡ length a.work.now) = λ w h. c.link_program.ensures w h in it) w h).0 in
-          linked_ready l (root-found w (c.root_place-root.ensures w.functions (linked_tabled l))) in it) w h in
-          noted-readable c.requires.1 r (c.clean_rounds-rounds.ensures w r) c.mark_left.ensures.others (c.note_repeats.ensures c.args.b.now w ((let it : (w : Program) → let a = c.args in ProgramListed a.b.now w a.work.now a.plan → Indexed a.b.now w c.mark_left.new.work a.plan = λ w h. let r = (let it : (w : Program) → let a = c.args in ProgramListed a.b.now w a.work.now a.plan → RoundsReady a.b.now w c.link_program.new.work a.plan c.root_place-root.result = λ w h. let l = ((let it : (w : Program) → let a = c.args in ProgramListed a.b.now w a.work.now a.plan → ProgramLinked a.b.now w c.link_program.new.work a.plan × (length c.link_program.new.work ≡ length a.work.now) = λ w h. c.link_program.ensures w h in it) w h).0 in
-          linked_ready l (root-found w (c.root_place-root.ensures w.functions (linked_tabled l))) in it) w h in
-          marks-indexed c.mark_left.ensures.others (only_rounds_indexed (c.clean_rounds-rounds.ensures w r).only r.indexed) in it) w h)) in it) p.program p.listed;
+      readable = let_5 p.program p.listed;
     }
 
 pub returns : goal.returns
-returns c = let p = c.requires.0 in let rounds = c.clean_rounds-rounds.ensures in let m = rounds p.program ((let it : (w : Program) → let a = c.args in ProgramListed a.b.now w a.work.now a.plan → RoundsReady a.b.now w c.link_program.new.work a.plan c.root_place-root.result = λ w h. let l = ((let it : (w : Program) → let a = c.args in ProgramListed a.b.now w a.work.now a.plan → ProgramLinked a.b.now w c.link_program.new.work a.plan × (length c.link_program.new.work ≡ length a.work.now) = λ w h. c.link_program.ensures w h in it) w h).0 in
-    linked_ready l (root-found w (c.root_place-root.ensures w.functions (linked_tabled l))) in it) p.program p.listed) in let notes = c.note_repeats.ensures c.args.b.now in let asked = c.note_undecided.ensures in let u = (asked p.program ((let it : (w : Program) → let a = c.args in ProgramListed a.b.now w a.work.now a.plan → Readable a.b.now w c.note_repeats.new.work a.plan = λ w h. let r = (let it : (w : Program) → let a = c.args in ProgramListed a.b.now w a.work.now a.plan → RoundsReady a.b.now w c.link_program.new.work a.plan c.root_place-root.result = λ w h. let l = ((let it : (w : Program) → let a = c.args in ProgramListed a.b.now w a.work.now a.plan → ProgramLinked a.b.now w c.link_program.new.work a.plan × (length c.link_program.new.work ≡ length a.work.now) = λ w h. c.link_program.ensures w h in it) w h).0 in
-    linked_ready l (root-found w (c.root_place-root.ensures w.functions (linked_tabled l))) in it) w h in
-    noted-readable c.requires.1 r (c.clean_rounds-rounds.ensures w r) c.mark_left.ensures.others (c.note_repeats.ensures c.args.b.now w ((let it : (w : Program) → let a = c.args in ProgramListed a.b.now w a.work.now a.plan → Indexed a.b.now w c.mark_left.new.work a.plan = λ w h. let r = (let it : (w : Program) → let a = c.args in ProgramListed a.b.now w a.work.now a.plan → RoundsReady a.b.now w c.link_program.new.work a.plan c.root_place-root.result = λ w h. let l = ((let it : (w : Program) → let a = c.args in ProgramListed a.b.now w a.work.now a.plan → ProgramLinked a.b.now w c.link_program.new.work a.plan × (length c.link_program.new.work ≡ length a.work.now) = λ w h. c.link_program.ensures w h in it) w h).0 in
-    linked_ready l (root-found w (c.root_place-root.ensures w.functions (linked_tabled l))) in it) w h in
-    marks-indexed c.mark_left.ensures.others (only_rounds_indexed (c.clean_rounds-rounds.ensures w r).only r.indexed) in it) w h)) in it) p.program p.listed)).only in record {
-      done = λ w h. rounds-done c.requires.1 ((let it : (w : Program) → let a = c.args in ProgramListed a.b.now w a.work.now a.plan → RoundsReady a.b.now w c.link_program.new.work a.plan c.root_place-root.result = λ w h. let l = ((let it : (w : Program) → let a = c.args in ProgramListed a.b.now w a.work.now a.plan → ProgramLinked a.b.now w c.link_program.new.work a.plan × (length c.link_program.new.work ≡ length a.work.now) = λ w h. c.link_program.ensures w h in it) w h).0 in
-          linked_ready l (root-found w (c.root_place-root.ensures w.functions (linked_tabled l))) in it) w h) (rounds w ((let it : (w : Program) → let a = c.args in ProgramListed a.b.now w a.work.now a.plan → RoundsReady a.b.now w c.link_program.new.work a.plan c.root_place-root.result = λ w h. let l = ((let it : (w : Program) → let a = c.args in ProgramListed a.b.now w a.work.now a.plan → ProgramLinked a.b.now w c.link_program.new.work a.plan × (length c.link_program.new.work ≡ length a.work.now) = λ w h. c.link_program.ensures w h in it) w h).0 in
-          linked_ready l (root-found w (c.root_place-root.ensures w.functions (linked_tabled l))) in it) w h)) c.mark_left.ensures.others (notes w ((let it : (w : Program) → let a = c.args in ProgramListed a.b.now w a.work.now a.plan → Indexed a.b.now w c.mark_left.new.work a.plan = λ w h. let r = (let it : (w : Program) → let a = c.args in ProgramListed a.b.now w a.work.now a.plan → RoundsReady a.b.now w c.link_program.new.work a.plan c.root_place-root.result = λ w h. let l = ((let it : (w : Program) → let a = c.args in ProgramListed a.b.now w a.work.now a.plan → ProgramLinked a.b.now w c.link_program.new.work a.plan × (length c.link_program.new.work ≡ length a.work.now) = λ w h. c.link_program.ensures w h in it) w h).0 in
-          linked_ready l (root-found w (c.root_place-root.ensures w.functions (linked_tabled l))) in it) w h in
-          marks-indexed c.mark_left.ensures.others (only_rounds_indexed (c.clean_rounds-rounds.ensures w r).only r.indexed) in it) w h)) c.mark_left.ensures.marked u (decided-all u asked);
+returns c =
+    let the_let : (w : Program) → let a = c.args in ProgramListed a.b.now w a.work.now a.plan → ProgramLinked a.b.now w c.link_program.new.work a.plan × (length c.link_program.new.work ≡ length a.work.now) = λ w h. c.link_program.ensures w h in
+    let let_3 : (w : Program) → let a = c.args in ProgramListed a.b.now w a.work.now a.plan → RoundsReady a.b.now w c.link_program.new.work a.plan c.root_place-root.result = λ w h. let l = (the_let w h).0 in
+    linked_ready l (root-found w (c.root_place-root.ensures w.functions (linked_tabled l))) in
+    let let_4 : (w : Program) → let a = c.args in ProgramListed a.b.now w a.work.now a.plan → Indexed a.b.now w c.mark_left.new.work a.plan = λ w h. let r = let_3 w h in
+    marks-indexed c.mark_left.ensures.others (only_rounds_indexed (c.clean_rounds-rounds.ensures w r).only r.indexed) in
+    let let_5 : (w : Program) → let a = c.args in ProgramListed a.b.now w a.work.now a.plan → Readable a.b.now w c.note_repeats.new.work a.plan = λ w h. let r = let_3 w h in
+    noted-readable c.requires.1 r (c.clean_rounds-rounds.ensures w r) c.mark_left.ensures.others (c.note_repeats.ensures c.args.b.now w (let_4 w h)) in
+    let let_6 : (w : Program) → let a = c.args in ProgramListed a.b.now w a.work.now a.plan → RoundsReady a.b.now w c.link_program.new.work a.plan c.root_place-root.result = λ w h. let l = (the_let w h).0 in
+    linked_ready l (root-found w (c.root_place-root.ensures w.functions (linked_tabled l))) in
+    let let_7 : (w : Program) → let a = c.args in ProgramListed a.b.now w a.work.now a.plan → Indexed a.b.now w c.mark_left.new.work a.plan = λ w h. let r = let_6 w h in
+    marks-indexed c.mark_left.ensures.others (only_rounds_indexed (c.clean_rounds-rounds.ensures w r).only r.indexed) in
+    let p = c.requires.0 in let rounds = c.clean_rounds-rounds.ensures in let m = rounds p.program (let_3 p.program p.listed) in let notes = c.note_repeats.ensures c.args.b.now in let asked = c.note_undecided.ensures in let u = (asked p.program (let_5 p.program p.listed)).only in record {
+      done = λ w h. rounds-done c.requires.1 (let_6 w h) (rounds w (let_6 w h)) c.mark_left.ensures.others (notes w (let_7 w h)) c.mark_left.ensures.marked u (decided-all u asked);
       few = m.few;
-      same = u.length ∙ ((notes p.program ((let it : (w : Program) → let a = c.args in ProgramListed a.b.now w a.work.now a.plan → Indexed a.b.now w c.mark_left.new.work a.plan = λ w h. let r = (let it : (w : Program) → let a = c.args in ProgramListed a.b.now w a.work.now a.plan → RoundsReady a.b.now w c.link_program.new.work a.plan c.root_place-root.result = λ w h. let l = ((let it : (w : Program) → let a = c.args in ProgramListed a.b.now w a.work.now a.plan → ProgramLinked a.b.now w c.link_program.new.work a.plan × (length c.link_program.new.work ≡ length a.work.now) = λ w h. c.link_program.ensures w h in it) w h).0 in
-          linked_ready l (root-found w (c.root_place-root.ensures w.functions (linked_tabled l))) in it) w h in
-          marks-indexed c.mark_left.ensures.others (only_rounds_indexed (c.clean_rounds-rounds.ensures w r).only r.indexed) in it) p.program p.listed)).length ∙ (c.mark_left.ensures.others.length ∙ (m.only.length ∙ ((let it : (w : Program) → let a = c.args in ProgramListed a.b.now w a.work.now a.plan → ProgramLinked a.b.now w c.link_program.new.work a.plan × (length c.link_program.new.work ≡ length a.work.now) = λ w h. c.link_program.ensures w h in it) p.program p.listed).1)));
+      same = u.length ∙ ((notes p.program (let_7 p.program p.listed)).length ∙ (c.mark_left.ensures.others.length ∙ (m.only.length ∙ (the_let p.program p.listed).1)));
     }

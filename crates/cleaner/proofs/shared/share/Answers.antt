@@ -7,10 +7,11 @@ use lib.ListN.{length}
 use Rattle.patterns.specs.Marks.{put_expression}
 use Rattle.patterns.specs.Meet.{meet}
 use Rattle.text.specs.Fill.{Emitted}
-use Rattle.answers.specs.declared.ExpressionAnswer.{ExpressionAnswer}
+use Rattle.answers.specs.ExpressionAnswers.{ExpressionAnswer}
 use Rattle.cleaner.specs.Shared.{leaving}
 use Rattle.cleaner.proofs.Sentences.{pattern_part, fuel-left}
-use Rattle.cleaner.proofs.Meetings.{counted, not_taken, not_left, nothing_shared, too_short, shared_written}
+use Rattle.cleaner.proofs.Meetings.{counted, nothing_shared, too_short, shared_written}
+use borrow.Author.Rules.{rules}
 use Rattle.cleaner.proofs.shared.share.Goals as goal
 
 pub sequence_overlap-f-requires : goal.sequence_overlap-f-requires
@@ -23,11 +24,11 @@ overflow_sub-spent c =
     let y = pattern_part c.args.b.now c.args.j c.requires.1 in
     fuel-left x.terms y.terms c.sequence_overlap-f.result (c.sequence_overlap-f.ensures.answers x y)
 
-pub returns-then-not-is_overlap : goal.returns-then-not-is_overlap
-returns-then-not-is_overlap c = λ x y.
+pub returns-then-ne : goal.returns-then-ne
+returns-then-ne c = λ x y.
     let u = pattern_part c.args.b.now c.args.i x in
     let v = pattern_part c.args.b.now c.args.j y in
-    nothing_shared u.terms v.terms c.sequence_overlap-f.result (c.sequence_overlap-f.ensures.answers u v) c.args.out.now (not_taken c.is_overlap.result _ c.if-not-is_overlap.true-raw c.is_overlap.ensures)
+    nothing_shared u.terms v.terms c.sequence_overlap-f.result (c.sequence_overlap-f.ensures.answers u v) c.args.out.now (search rules)
 
 pub put_meeting-length-requires : goal.put_meeting-length-requires
 put_meeting-length-requires c =
@@ -40,9 +41,9 @@ returns-then-out-length c = λ x y.
     let k = counted (put_expression (meet u.terms v.terms) []) c.put_meeting-length.result c.put_meeting-length.new.out (c.put_meeting-length.ensures u v) in
     let lent = c.args.out.now in
     let same : c.put_meeting-length.new.out ++ lent ≡ lent = ap (λ (l : List ℕ). l ++ lent) k.1 in
-    ap (λ (l : List ℕ). leaving c.no_expression.result l) same
-    ∙ ap (λ (r : ExpressionAnswer). leaving r lent) c.no_expression.ensures
-    ∙ too_short u.terms v.terms c.sequence_overlap-f.result (c.sequence_overlap-f.ensures.answers u v) lent (not_left c.is_overlap.result _ c.if-not-is_overlap.false-raw c.is_overlap.ensures) c.put_meeting-length.result k.0 (omega (arith, c.if-out-length.true, ap length same))
+    ap (λ (l : List ℕ). leaving c.at.result l) same
+    ∙ ap (λ (r : ExpressionAnswer). leaving r lent) c.at.ensures
+    ∙ too_short u.terms v.terms c.sequence_overlap-f.result (c.sequence_overlap-f.ensures.answers u v) lent (search rules) c.put_meeting-length.result k.0 (omega (arith, c.if-out-length.true, ap length same))
 
 pub put_meeting-requires : goal.put_meeting-requires
 put_meeting-requires c =
@@ -55,5 +56,5 @@ returns c = λ x y.
     let k = counted (put_expression (meet u.terms v.terms) []) c.put_meeting-length.result c.put_meeting-length.new.out (c.put_meeting-length.ensures u v) in
     let lent = c.args.out.now in
     let same : c.put_meeting-length.new.out ++ lent ≡ lent = ap (λ (l : List ℕ). l ++ lent) k.1 in
-    shared_written u.terms v.terms c.sequence_overlap-f.result (c.sequence_overlap-f.ensures.answers u v) lent (not_left c.is_overlap.result _ c.if-not-is_overlap.false-raw c.is_overlap.ensures) c.put_meeting-length.result c.put_meeting.result c.put_meeting.new.out k.0 (λ l. omega (arith, l, c.if-out-length.false, ap length same))
+    shared_written u.terms v.terms c.sequence_overlap-f.result (c.sequence_overlap-f.ensures.answers u v) lent (search rules) c.put_meeting-length.result c.put_meeting.result c.put_meeting.new.out k.0 (λ l. omega (arith, l, c.if-out-length.false, ap length same))
     (subst (λ (l : List ℕ). Emitted l 0 (put_expression (meet u.terms v.terms) []) c.put_meeting.result c.put_meeting.new.out) same (c.put_meeting.ensures u v))

@@ -15,12 +15,12 @@ use Rattle.meaning.proofs.Matching.{bound}
 use Rattle.meaning.proofs.Searching.{Choice, choice, site}
 use Rattle.text.specs.Fill.{Emitted}
 use Rattle.text.proofs.Fill.{emitted-length}
-use Rattle.matching.specs.Bindings.{VariableAt, put_binding, RunAt}
+use Rattle.matching.specs.Bindings.{VariableAt, put_binding, Numbers, RunAt}
 use Rattle.matching.specs.Binds.{add_choice, Binds}
 use Rattle.matching.specs.Choices.{ChoiceAt, ByKind, ChoicesAt}
 use Rattle.matching.specs.Pairs.{put_patterns, put_behind, VariablePair}
 use Rattle.matching.specs.Takes.{Takes}
-use Rattle.matching.proofs.Held.{Apart, emitted-apart, part_below, binding_length, binding_numbers, Numbers, bound-run}
+use Rattle.matching.proofs.Held.{Apart, emitted-apart, part_below, binding_length, binding_numbers, bound-run}
 use Rattle.matching.proofs.Taking.{variable-at, behind-variable}
 use Rattle.matching.proofs.Splitting.{pairs-kept}
 use Rattle.matching.proofs.Extending.{choices-kept}

@@ -16,6 +16,7 @@ use Rattle.patterns.specs.Expression.{Expression, void}
 use Rattle.patterns.specs.Marks.{put_expression}
 use Rattle.meaning.specs.Match.{Binding, Bindings}
 use Rattle.meaning.proofs.Searching.{Choice, remaining, further}
+use Rattle.std.specs.Prelude.{Some, None}
 use Rattle.matching.specs.Bindings.{BindingAt, RunAt}
 use Rattle.matching.specs.Pairs.{put_behind}
 use Rattle.matching.specs.Choices.{ChoiceAt, ByKind, ChoicesAt, can_take, Readable, Newest, NewestAt}
@@ -197,21 +198,21 @@ module _ {body work rest : List ℕ} {top frame stop at : ℕ} {cs : List Choice
   pub look_here : at < stop → Here body work rest top frame stop at l.choices
   look_here h = here-at body work rest top frame stop l.left at l.choices l.run l.is h
 
-  pub look_none : stop ≤ at → NewestAt body work rest top frame stop cs at
+  pub look_none : stop ≤ at → NewestAt body work rest top frame stop cs None
   unfolding remaining
   look_none h =
       let e = ended body work rest top stop l.left at l.choices l.is h in
-      inl (e.0, sym l.same ∙ ap remaining e.1)
+      sym l.same ∙ ap remaining e.1
 
   pub look_more : top ≤ length work → (h : at < stop) → can_take body work at ≡ false → Looking body work rest top frame stop cs (at + 8)
   look_more room h f =
       let k = look_on room (look_here h) f in
       record { left = k.left; run = k.run; choices = k.choices; is = k.is; same = k.same ∙ l.same }
 
-  pub look_found : top ≤ length work → (h : at < stop) → can_take body work at ≡ true → NewestAt body work rest top frame stop cs at
+  pub look_found : top ≤ length work → (h : at < stop) → can_take body work at ≡ true → NewestAt body work rest top frame stop cs (Some at)
   look_found room h f =
       let k = stop-here room (look_here h) f in
-      inr (h, record { first = k.first; more = k.more; run = k.run; kind = k.kind; choice = k.choice; others = k.others; here = k.here; behind = k.behind; some_left = k.some_left; same = sym l.same ∙ k.same })
+      (h, record { first = k.first; more = k.more; run = k.run; kind = k.kind; choice = k.choice; others = k.others; here = k.here; behind = k.behind; some_left = k.some_left; same = sym l.same ∙ k.same })
 
 pub looking_first : {body work rest : List ℕ} {top frame stop at : ℕ} (b : Bindings) (cs : List Choice) → RunAt body work top frame b at → ChoicesAt body work rest top stop b at cs → Looking body work rest top frame stop cs at
 looking_first b cs r k = record { left = b; run = r; choices = cs; is = k; same = refl }

@@ -1,5 +1,5 @@
 -- What stays in the state when a binding is written below the others.
-use Prim.Native.Nat.{ℕ, zero, suc, ◌+◌, ◌-◌, ◌*◌, ◌/◌, ◌%◌, ◌<◌, ◌≤◌}
+use Prim.Native.Nat.{ℕ, zero, suc, ◌+◌, ◌-◌, ◌*◌, ◌<◌, ◌≤◌}
 use native.Mathlib.Omega.{arith}
 use native.Mathlib.Nat.{add-zero}
 use mathlib.Core.Path.{◌≡◌, refl, sym, ap, ap₂, ◌∙◌}
@@ -14,14 +14,10 @@ use Rattle.patterns.specs.Marks.{put_expression}
 use Rattle.meaning.specs.Match.{Binding, Bindings}
 use Rattle.meaning.proofs.Inputs.{ValidExpression}
 use Rattle.text.specs.Fill.{Emitted}
-use Rattle.text.proofs.Fill.{filled-fits, emitted-same, emitted-append}
-use Rattle.matching.specs.Bindings.{VariableAt, put_binding, HoldsAt, BindingAt, RunAt}
+use Rattle.text.proofs.Fill.{filled-fits, emitted-append}
+use Rattle.matching.specs.Bindings.{VariableAt, put_binding, Numbers, HoldsAt, BindingAt, RunAt}
 
--- Two bytes are a number, four numbers a binding.
-pub number-emitted : {s b d : List ℕ} {p r q : ℕ} (n : ℕ) {x y : ℕ} → x ≡ n % 256 → y ≡ n / 256 % 256 → Emitted s p (x ∷ []) r b → Emitted b r (y ∷ []) q d → Emitted s p (put16 n []) q d
-unfolding put16
-number-emitted n e f u v = emitted-same (ap₂ (λ (a b : ℕ). a ∷ b ∷ []) e f) (emitted-append _ _ u v)
-
+-- Four numbers are a binding.
 pub binding_emitted : {s a b c d : List ℕ} {p i j k q : ℕ} (place from until end : ℕ) → Emitted s p (put16 place []) i a → Emitted a i (put16 from []) j b → Emitted b j (put16 until []) k c → Emitted c k (put16 end []) q d → Emitted s p (put_binding place from until end []) q d
 unfolding put_binding put16
 binding_emitted place from until end u v w x = emitted-append _ _ (emitted-append _ _ (emitted-append _ _ u v) w) x
@@ -197,13 +193,6 @@ pub written-number : {work new : List ℕ} {at r : ℕ} (n : ℕ) → Emitted wo
 written-number {work} {new} {at} {r} n e h j =
     let l : at + length (put16 n []) ≤ length work = (let k = number-length n in omega (arith, k, h)) in
     ap (get16 new) (sym (add-zero at)) ∙ (number_at new at 0 ∙ (ap (λ (y : List ℕ). get16 y 0) (written_at e l) ∙ number-front n _ j))
-
--- The numbers of a binding.
-pub record Numbers (work : List ℕ) (at a b c d : ℕ) : Type 0 where
-  pub place : get16 work at ≡ a
-  pub from : get16 work (at + 2) ≡ b
-  pub until : get16 work (at + 4) ≡ c
-  pub end : get16 work (at + 6) ≡ d
 
 last-number : (a b c d : ℕ) (k : List ℕ) → d < 65536 → get16 (put_binding a b c d k) 6 ≡ d
 unfolding put_binding put16 get16

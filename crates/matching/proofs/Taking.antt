@@ -24,7 +24,7 @@ use Rattle.meaning.proofs.Inputs.{tokens_of, ValidExpression, first-closing, inp
 use Rattle.meaning.proofs.Tokens.{tokens-end, tokens-next, tokens-before, Closed}
 use Rattle.meaning.proofs.Fronts.{rest_after, front-is}
 use Rattle.meaning.proofs.Matching.{Pair, pair, matches_all, s_void, s_atom, s_group, t_void, t_atom, t_group, bind_known, if_left, e_known}
-use Rattle.values.specs.declared.levels.Front.{Front}
+use Rattle.std.specs.Prelude.{Some, None}
 use Rattle.values.specs.Values.{ValueAt, LevelAt, FrontOf}
 use Rattle.matching.specs.Bindings.{VariableAt, HoldsAt}
 use Rattle.matching.specs.Pairs.{put_patterns, put_behind, ValidPairs, PairsAt, VariablePair, OnwardWith}
@@ -113,12 +113,12 @@ there : (w : Expression) (f : Expression → List Bindings) → if_left (some w)
 unfolding if_left
 there w f = refl
 
-nowhere : (v : Expression) (o : Option Expression) (f : Expression → List Bindings) → FrontOf v o Front.Nowhere → if_left o f ≡ []
+nowhere : (v : Expression) (o : Option Expression) (f : Expression → List Bindings) → FrontOf v o None → if_left o f ≡ []
 unfolding if_left
 nowhere v none f h = refl
 nowhere v (some w) f h = absurd h
 
-until : (v : Expression) (o : Option Expression) (j : ℕ) → FrontOf v o (Front.Until j) → (w : Expression) × (o ≡ some w) × (j + bytes_of w ≡ bytes_of v)
+until : (v : Expression) (o : Option Expression) (j : ℕ) → FrontOf v o (Some j) → (w : Expression) × (o ≡ some w) × (j + bytes_of w ≡ bytes_of v)
 until v none j h = absurd h
 until v (some w) j h = (w, refl, h)
 
@@ -153,7 +153,7 @@ known l b s e_kind n r v u f e = e_known l b s n r v u e
 
 -- ---- the step
 
-pub front-short : {body work : List ℕ} {p v end : ℕ} {rest : List ℕ} {x : Pair} {l : List Pair} (at : PairsAt body work p v end rest x l) (o : Option Expression) (j : ℕ) → FrontOf x.value o (Front.Until j) → v + j ≤ end
+pub front-short : {body work : List ℕ} {p v end : ℕ} {rest : List ℕ} {x : Pair} {l : List Pair} (at : PairsAt body work p v end rest x l) (o : Option Expression) (j : ℕ) → FrontOf x.value o (Some j) → v + j ≤ end
 front-short {body} {work} {p} {v} {end} {rest} {x} {l} at o j f =
     let i = (until x.value o j f).2 in
     let z = ap length at.value in
@@ -166,10 +166,10 @@ module _ {body work : List ℕ} {p v end : ℕ} (q : VariablePair body work p v 
   left : matches_all (pair (variable q.span q.kind q.name q.behind) q.value ∷ q.more) b ≡ if_left (rest_after u q.value) (λ w. matches_all (pair q.behind w ∷ q.more) b)
   left = known q.more b q.span q.kind q.name q.behind q.value u fits told
 
-  pub known_failed : FrontOf q.value (rest_after u q.value) Front.Nowhere → matches_all (pair (variable q.span q.kind q.name q.behind) q.value ∷ q.more) b ≡ []
+  pub known_failed : FrontOf q.value (rest_after u q.value) None → matches_all (pair (variable q.span q.kind q.name q.behind) q.value ∷ q.more) b ≡ []
   known_failed f = left ∙ nowhere q.value (rest_after u q.value) (λ w. matches_all (pair q.behind w ∷ q.more) b) f
 
-  pub known_on : (next j : ℕ) → drop next body ≡ put_terms q.behind (put_patterns q.more q.rest) → FrontOf q.value (rest_after u q.value) (Front.Until j) → OnwardWith body work next (v + j) end q.rest (pair (variable q.span q.kind q.name q.behind) q.value) q.more b b
+  pub known_on : (next j : ℕ) → drop next body ≡ put_terms q.behind (put_patterns q.more q.rest) → FrontOf q.value (rest_after u q.value) (Some j) → OnwardWith body work next (v + j) end q.rest (pair (variable q.span q.kind q.name q.behind) q.value) q.more b b
   known_on next j e f =
       let o = until q.value (rest_after u q.value) j f in
       let w = o.0 in

@@ -14,6 +14,7 @@ use Rattle.image.specs.Parts.{NameAt}
 use Rattle.patterns.specs.Names.{same_name}
 use Rattle.patterns.specs.Equality.{eq_kind}
 use Rattle.meaning.specs.Match.{Binding, Bindings, is_variable, value_of}
+use Rattle.std.specs.Prelude.{Some, None}
 use Rattle.matching.specs.Bindings.{VariableAt, BindingAt, RunAt, Known}
 
 pub variable-room : {s : List ℕ} → VariableAt s → 10 ≤ length s
@@ -114,7 +115,7 @@ module _ {body work q : List ℕ} {top frame at : ℕ} (v : VariableAt q) {b : B
       let w = (at_newest h).there in
       sym (e w.variable ∙ ap₂ (λ (k : Kind) (n : Name). eq_kind v.kind k && same_name v.name n) w.kind w.name)
 
-  pub sought_found : (h : at < frame) (t : Bool) → ((y : VariableAt (drop (get16 work at) body)) → t ≡ (eq_kind v.kind y.kind && same_name v.name y.name)) → t ≡ true → Known work top frame at (value_of v.kind v.name b)
+  pub sought_found : (h : at < frame) (t : Bool) → ((y : VariableAt (drop (get16 work at) body)) → t ≡ (eq_kind v.kind y.kind && same_name v.name y.name)) → t ≡ true → Known work top frame (Some at) (value_of v.kind v.name b)
   sought_found h t e f =
       let w = at_newest h in
       let o : value_of v.kind v.name b ≡ some w.first.value = sym s.same ∙ (ap (value_of v.kind v.name) w.split ∙ value-first v.kind v.name w.first w.more (is_it h t e ∙ f)) in
@@ -125,12 +126,12 @@ module _ {body work q : List ℕ} {top frame at : ℕ} (v : VariableAt q) {b : B
       let w = at_newest h in
       record { left = w.more; run = w.next; same = sym (value-later v.kind v.name w.first w.more (is_it h t e ∙ f)) ∙ (sym (ap (value_of v.kind v.name) w.split) ∙ s.same) }
 
-  pub sought_none : frame ≤ at → Known work top frame at (value_of v.kind v.name b)
+  pub sought_none : frame ≤ at → Known work top frame None (value_of v.kind v.name b)
   unfolding value_of
   sought_none h =
       let w = none_left body work top frame at s.left s.run h in
       let o : value_of v.kind v.name b ≡ none = sym s.same ∙ ap (value_of v.kind v.name) w.0 in
-      rw o w.1
+      rw o tt
 
 -- What is told of two parts of the body holds of what stands there.
 pub told_at :

@@ -1,5 +1,5 @@
 -- Bindings in the bytes of a run's state: each is four numbers of 16 bits, the newest lowest.
-use Rattle.std.specs.Prelude.{ℕ, ◌+◌, ◌-◌, ◌≤◌, ◌≡◌, false, List, [], ◌∷◌, take, drop}
+use Rattle.std.specs.Prelude.{ℕ, ◌+◌, ◌-◌, ◌≤◌, ◌≡◌, false, List, [], ◌∷◌, take, drop, Option as Found, Some, None}
 use Rattle.std.proofs.Math.Option.{Option, none, some}
 use Rattle.program.specs.Syntax.{Span, Name, Kind}
 use Rattle.program.specs.Bytes.{put_span, put_name, put16, get16}
@@ -23,6 +23,13 @@ pub record VariableAt (s : List ℕ) : Type 0 where
 unfoldable pub put_binding : ℕ → ℕ → ℕ → ℕ → List ℕ → List ℕ
 put_binding place from until end k = put16 place (put16 from (put16 until (put16 end k)))
 
+-- The four numbers at a place.
+pub record Numbers (work : List ℕ) (at a b c d : ℕ) : Type 0 where
+  pub place : get16 work at ≡ a
+  pub from : get16 work (at + 2) ≡ b
+  pub until : get16 work (at + 4) ≡ c
+  pub end : get16 work (at + 6) ≡ d
+
 -- The value of the binding at a place: all values lie below `top`.
 pub record HoldsAt (work : List ℕ) (top at : ℕ) (u : Expression) : Type 0 where
   pub ordered : get16 work (at + 2) ≤ get16 work (at + 4)
@@ -45,7 +52,9 @@ pub record Run (body work : List ℕ) (top frame at : ℕ) : Type 0 where
   pub bindings : Bindings
   pub is : RunAt body work top frame bindings at
 
--- A place is that of the binding which holds a value, or the end where there is none.
-abbrev pub Known : List ℕ → ℕ → ℕ → ℕ → Option Expression → Type 0
-Known work top frame r none = r ≡ frame
-Known work top frame r (some u) = (r + 8 ≤ frame) × HoldsAt work top r u
+-- A place is that of the binding which holds a value; there is none for no value.
+abbrev pub Known : List ℕ → ℕ → ℕ → Found ℕ → Option Expression → Type 0
+Known work top frame None none = Unit {0}
+Known work top frame None (some u) = ⊥
+Known work top frame (Some r) none = ⊥
+Known work top frame (Some r) (some u) = (r + 8 ≤ frame) × HoldsAt work top r u

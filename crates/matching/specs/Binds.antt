@@ -1,12 +1,12 @@
 -- A new variable bound in the state.
-use Rattle.std.specs.Prelude.{ℕ, ◌+◌, ◌≤◌, ◌≡◌, List, [], ◌∷◌, ◌++◌}
+use Rattle.std.specs.Prelude.{ℕ, ◌+◌, ◌≤◌, ◌≡◌, List, [], ◌∷◌, ◌++◌, Option, Some, None}
 use Rattle.program.specs.Syntax.{Kind, s_kind, t_kind, e_kind, variable}
 use Rattle.patterns.specs.Expression.{Expression}
 use Rattle.patterns.specs.Fresh.{Fits}
 use Rattle.meaning.specs.Match.{Bindings}
 use Rattle.meaning.proofs.Matching.{pair, bound, matches_all}
 use Rattle.meaning.proofs.Searching.{Choice, choice, site}
-use Rattle.matching.specs.declared.steps.Met.{Met}
+use Rattle.matching.specs.declared.steps.Place.{Place}
 use Rattle.matching.specs.Bindings.{RunAt}
 use Rattle.matching.specs.Pairs.{PairsAt, VariablePair}
 use Rattle.matching.specs.Choices.{ChoicesAt}
@@ -32,7 +32,6 @@ pub record Binds (body work new : List ℕ) (top frame low p v end : ℕ) (q : V
       (stop : ℕ) (cs : List Choice) → low + 8 ≤ stop → ChoicesAt body work q.rest top stop b (low + 8) cs
       → ChoicesAt body new q.rest top stop (bound q.kind q.name taken ∷ b) low (add_choice q.kind (choice (site q.name q.behind q.more b) taken left) cs)
 
-abbrev pub BindsAs : (body work new : List ℕ) (top frame low p v end : ℕ) → VariablePair body work p v end → Bindings → Met → Type 0
-BindsAs body work new top frame low p v end q b (Met.On next until) = Binds body work new top frame low p v end q b next until
-BindsAs body work new top frame low p v end q b (Met.Matched next) = ⊥
-BindsAs body work new top frame low p v end q b Met.Failed = (new ≡ work) × (matches_all (pair (variable q.span q.kind q.name q.behind) q.value ∷ q.more) b ≡ [])
+abbrev pub BindsAs : (body work new : List ℕ) (top frame low p v end : ℕ) → VariablePair body work p v end → Bindings → Option Place → Type 0
+BindsAs body work new top frame low p v end q b (Some r) = (r.end ≡ end) × Binds body work new top frame low p v end q b r.p r.v
+BindsAs body work new top frame low p v end q b None = (new ≡ work) × (matches_all (pair (variable q.span q.kind q.name q.behind) q.value ∷ q.more) b ≡ [])

@@ -1,5 +1,5 @@
 -- The choices that bound `e.` variables are: each may take more of the value that its pattern meets.
-use Rattle.std.specs.Prelude.{ℕ, ◌+◌, ◌-◌, ◌<◌, ◌≤◌, ◌≡◌, ◌⊎◌, Bool, ◌&&◌, not, List, [], ◌∷◌, ◌++◌, eqb, length, get_or, take, drop}
+use Rattle.std.specs.Prelude.{ℕ, ◌+◌, ◌-◌, ◌<◌, ◌≤◌, ◌≡◌, ◌⊎◌, Bool, ◌&&◌, not, List, [], ◌∷◌, ◌++◌, eqb, length, get_or, take, drop, Option, Some, None}
 use Rattle.program.specs.Syntax.{Kind, s_kind, t_kind, e_kind}
 use Rattle.program.specs.Bytes.{get16}
 use Rattle.program.specs.Encode.{put_terms}
@@ -52,7 +52,7 @@ pub record Readable (body work : List ℕ) (at : ℕ) : Type 0 where
   pub room : at + 8 ≤ length work
   pub end : get_or body (get16 work at) 0 ≡ 6 → (get16 work (at + 4) ≤ get16 work (at + 6)) × (get16 work (at + 6) ≤ length work)
 
--- The newest choice that can take more, with the matches still to come; none is left at `stop`.
+-- The newest choice that can take more, with the matches still to come; where there is none, none is left.
 pub record Newest (body work rest : List ℕ) (top frame stop : ℕ) (cs : List Choice) (at : ℕ) : Type 0 where
   pub first : Binding
   pub more : Bindings
@@ -65,8 +65,9 @@ pub record Newest (body work rest : List ℕ) (top frame stop : ℕ) (cs : List 
   pub some_left : choice.left ≡ void → ⊥
   pub same : remaining cs ≡ further choice.site choice.taken choice.left ++ remaining others
 
-abbrev pub NewestAt : List ℕ → List ℕ → List ℕ → ℕ → ℕ → ℕ → List Choice → ℕ → Type 0
-NewestAt body work rest top frame stop cs r = ((r ≡ stop) × (remaining cs ≡ [])) ⊎ ((r < stop) × Newest body work rest top frame stop cs r)
+abbrev pub NewestAt : List ℕ → List ℕ → List ℕ → ℕ → ℕ → ℕ → List Choice → Option ℕ → Type 0
+NewestAt body work rest top frame stop cs None = remaining cs ≡ []
+NewestAt body work rest top frame stop cs (Some r) = (r < stop) × Newest body work rest top frame stop cs r
 
 pub record SomeNewest (body work : List ℕ) (top frame stop at : ℕ) : Type 0 where
   pub rest : List ℕ

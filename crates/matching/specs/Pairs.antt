@@ -1,5 +1,5 @@
 -- A pattern of the body and a value of the state, read in step: two places stand for a list of pairs, since brackets are entered in both.
-use Rattle.std.specs.Prelude.{ℕ, ◌-◌, ◌≤◌, ◌≡◌, List, [], ◌∷◌, length, take, drop}
+use Rattle.std.specs.Prelude.{ℕ, ◌-◌, ◌≤◌, ◌≡◌, List, [], ◌∷◌, length, take, drop, Option, Some, None}
 use Rattle.program.specs.Syntax.{Span, Name, Kind, Terms, variable}
 use Rattle.program.specs.Encode.{put_terms}
 use Rattle.program.specs.Limits.{Mode, ValidTerms}
@@ -10,6 +10,7 @@ use Rattle.meaning.proofs.Inputs.{ValidExpression}
 use Rattle.meaning.proofs.Matching.{Pair, pair, matches_all}
 use Rattle.matching.specs.Bindings.{HoldsAt}
 use Rattle.matching.specs.declared.steps.Met.{Met}
+use Rattle.matching.specs.declared.steps.Place.{Place}
 
 -- The patterns of pairs, each with its close.
 unfoldable pub put_patterns : List Pair → List ℕ → List ℕ
@@ -51,10 +52,10 @@ pub record Onward (body work : List ℕ) (p v end : ℕ) (rest : List ℕ) (x : 
   pub at : PairsAt body work p v end rest first more
   pub same : (b : Bindings) → matches_all (x ∷ l) b ≡ matches_all (first ∷ more) b
 
-abbrev pub Meets : List ℕ → List ℕ → ℕ → List ℕ → Pair → List Pair → Met → Type 0
-Meets body work end rest x l (Met.On p v) = Onward body work p v end rest x l
-Meets body work end rest x l (Met.Matched p) = (drop p body ≡ rest) × ((b : Bindings) → matches_all (x ∷ l) b ≡ b ∷ [])
-Meets body work end rest x l Met.Failed = (b : Bindings) → matches_all (x ∷ l) b ≡ []
+abbrev pub Meets : List ℕ → List ℕ → ℕ → List ℕ → Pair → List Pair → Option Met → Type 0
+Meets body work end rest x l (Some (Met.On r)) = (r.end ≡ end) × Onward body work r.p r.v end rest x l
+Meets body work end rest x l (Some (Met.Matched p)) = (drop p body ≡ rest) × ((b : Bindings) → matches_all (x ∷ l) b ≡ b ∷ [])
+Meets body work end rest x l None = (b : Bindings) → matches_all (x ∷ l) b ≡ []
 
 -- A variable of the pattern at two places, and what is left to match behind it.
 pub record VariablePair (body work : List ℕ) (p v end : ℕ) : Type 0 where
@@ -74,10 +75,9 @@ pub record OnwardWith (body work : List ℕ) (p v end : ℕ) (rest : List ℕ) (
   pub at : PairsAt body work p v end rest first more
   pub same : matches_all (x ∷ l) b ≡ matches_all (first ∷ more) d
 
-abbrev pub MeetsWith : List ℕ → List ℕ → ℕ → List ℕ → Pair → List Pair → Bindings → Bindings → Met → Type 0
-MeetsWith body work end rest x l b d (Met.On p v) = OnwardWith body work p v end rest x l b d
-MeetsWith body work end rest x l b d (Met.Matched p) = ⊥
-MeetsWith body work end rest x l b d Met.Failed = matches_all (x ∷ l) b ≡ []
+abbrev pub MeetsWith : List ℕ → List ℕ → ℕ → List ℕ → Pair → List Pair → Bindings → Bindings → Option Place → Type 0
+MeetsWith body work end rest x l b d (Some r) = (r.end ≡ end) × OnwardWith body work r.p r.v end rest x l b d
+MeetsWith body work end rest x l b d None = matches_all (x ∷ l) b ≡ []
 
 -- The value of a known variable, by the place of its binding.
 pub record Held (work : List ℕ) (top at : ℕ) : Type 0 where

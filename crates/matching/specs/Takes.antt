@@ -1,5 +1,5 @@
 -- What a new variable of the pattern takes first of the value, and what is left.
-use Rattle.std.specs.Prelude.{ℕ, ◌-◌, ◌≤◌, ◌≡◌, List, [], ◌∷◌, ◌++◌, take, drop}
+use Rattle.std.specs.Prelude.{ℕ, ◌-◌, ◌≤◌, ◌≡◌, List, [], ◌∷◌, ◌++◌, take, drop, Option, Some, None}
 use Rattle.program.specs.Syntax.{Kind, s_kind, t_kind, e_kind, variable}
 use Rattle.patterns.specs.Expression.{Expression}
 use Rattle.patterns.specs.Fresh.{Fits}
@@ -8,7 +8,6 @@ use Rattle.meaning.specs.Match.{Bindings}
 use Rattle.meaning.proofs.Inputs.{ValidExpression}
 use Rattle.meaning.proofs.Matching.{pair, bound, matches_all}
 use Rattle.meaning.proofs.Searching.{Site, site, further}
-use Rattle.values.specs.declared.levels.Front.{Front}
 use Rattle.matching.specs.Pairs.{put_behind, VariablePair}
 
 -- The matches in which it takes more: an `e.` variable only.
@@ -32,6 +31,6 @@ pub record Takes (body work : List ℕ) (p v end : ℕ) (q : VariablePair body w
       matches_all (pair (variable q.span q.kind q.name q.behind) q.value ∷ q.more) b
       ≡ matches_all (pair q.behind left ∷ q.more) (bound q.kind q.name taken ∷ b) ++ further_if q.kind (site q.name q.behind q.more b) taken left
 
-abbrev pub TakesUntil : (body work : List ℕ) (p v end : ℕ) → VariablePair body work p v end → Bindings → Front → Type 0
-TakesUntil body work p v end q b (Front.Until e) = Takes body work p v end q b e
-TakesUntil body work p v end q b Front.Nowhere = matches_all (pair (variable q.span q.kind q.name q.behind) q.value ∷ q.more) b ≡ []
+abbrev pub TakesUntil : (body work : List ℕ) (p v end : ℕ) → VariablePair body work p v end → Bindings → Option ℕ → Type 0
+TakesUntil body work p v end q b (Some e) = Takes body work p v end q b e
+TakesUntil body work p v end q b None = matches_all (pair (variable q.span q.kind q.name q.behind) q.value ∷ q.more) b ≡ []

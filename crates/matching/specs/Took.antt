@@ -3,7 +3,7 @@ use Rattle.std.specs.Prelude.{ℕ, ◌≡◌, List, ◌∷◌, ◌++◌}
 use Rattle.patterns.specs.Expression.{Expression}
 use Rattle.meaning.proofs.Matching.{pair, matches_all}
 use Rattle.meaning.proofs.Searching.{Site, Choice, choice, bindings_at, remaining}
-use Rattle.matching.specs.declared.back.Place.{Place}
+use Rattle.matching.specs.declared.steps.Place.{Place}
 use Rattle.matching.specs.Bindings.{RunAt}
 use Rattle.matching.specs.Pairs.{PairsAt}
 use Rattle.matching.specs.Choices.{ChoicesAt}

@@ -7,9 +7,8 @@ ghost use Rattle.matching.specs.Choices.{ChoicesAt, SomeChoices, can_take, Reada
 ghost use Rattle.matching.specs.Took.{Took};
 ghost use Rattle.text.specs.Fill.{limit};
 
-use crate::bindings::extend_binding;
-use crate::steps::behind_variable;
-use image::number::read16;
+use crate::bindings::{Binding, extend_binding};
+use crate::steps::{Place, behind_variable};
 use values::levels::term_end;
 
 // Whether the binding at a place is an `e.` variable's that can take a term more.
@@ -17,65 +16,34 @@ fn can_take(body: &[u8], work: &[u8], at: usize) -> bool
     requires { Readable body.now work.now at }
     ensures { result ≡ can_take body.now work.now at }
 {
-    let place = read16(work, at) as usize;
-    if body[place] != 6 {
+    let b = Binding::read(work, at);
+    if body[b.place] != 6 {
         return false;
     }
-    let until = read16(work, at + 4) as usize;
-    let end = read16(work, at + 6) as usize;
-    if until == end {
-        return false;
-    }
-    work[until] != 15
+    b.until != b.end && work[b.until] != 15
 }
 
-// The newest binding, from `low` on, of an `e.` variable that can take a term more; `stop` where there is none.
-pub fn newest_choice(
-    body: &[u8],
-    work: &[u8],
-    top: usize,
-    low: usize,
-    frame: usize,
-    stop: usize,
-) -> usize
-    requires { SomeChoices body.now work.now top frame stop low × (frame ≤ length work.now) × (top ≤ length work.now) }
-    ensures { (rest : List ℕ) (b : Bindings) (cs : List Choice) → RunAt body.now work.now top frame b low → ChoicesAt body.now work.now rest top stop b low cs → NewestAt body.now work.now rest top frame stop cs result }
+// The newest binding, from `low` up to `stop`, of an `e.` variable that can take a term more, if there is one.
+pub fn newest_choice(body: &[u8], work: &[u8], low: usize, stop: usize) -> Option<usize>
+    requires { (top : ℕ) × (frame : ℕ) × SomeChoices body.now work.now top frame stop low × (frame ≤ length work.now) × (top ≤ length work.now) }
+    ensures { (rest : List ℕ) (b : Bindings) (cs : List Choice) (top frame : ℕ) → top ≤ length work.now → RunAt body.now work.now top frame b low → ChoicesAt body.now work.now rest top stop b low cs → NewestAt body.now work.now rest top frame stop cs result }
 {
-    let mut at = low;
-    while at < stop {
+    for at in (low..stop).step_by(8) {
         if can_take(body, work, at) {
-            return at;
+            return Some(at);
         }
-        at += 8;
     }
-    at
+    None
 }
 
-// Where a search goes on: the pattern from p on, the value from v up to `end`.
-#[derive(Clone, Copy)]
-pub struct Place {
-    pub p: usize,
-    pub v: usize,
-    pub end: usize,
-}
-
-// The choice at a place takes one term more.
-pub fn take_more(
-    body: &[u8],
-    work: &mut [u8],
-    top: usize,
-    frame: usize,
-    stop: usize,
-    at: usize,
-) -> Place
-    requires { SomeNewest body.now work.old top frame stop at × (top ≤ at) × (frame ≤ length work.old) × (length work.old ≤ limit) × (top < 65536) }
-    ensures { (rest : List ℕ) (cs : List Choice) → Newest body.now work.old rest top frame stop cs at → Took body.now work.new rest top frame stop cs at result }
+// The choice at a place takes one term more: where the search goes on.
+pub fn take_more(body: &[u8], work: &mut [u8], at: usize) -> Place
+    requires { (length work.old ≤ limit) × ((top : ℕ) × (frame : ℕ) × (stop : ℕ) × SomeNewest body.now work.old top frame stop at × (top ≤ at) × (frame ≤ length work.old)) }
+    ensures { (rest : List ℕ) (cs : List Choice) (top frame stop : ℕ) → (top ≤ at) × (frame ≤ length work.old) × (top < 65536) → Newest body.now work.old rest top frame stop cs at → Took body.now work.new rest top frame stop cs at result }
 {
-    let place = read16(work, at) as usize;
-    let until = read16(work, at + 4) as usize;
-    let end = read16(work, at + 6) as usize;
-    let more = until + term_end(&work[until..end]);
-    extend_binding(work, at, more);
-    let p = behind_variable(body, place);
-    Place { p, v: more, end }
+    let b = Binding::read(work, at);
+    let v = b.until + term_end(&work[b.until..b.end]);
+    extend_binding(work, at, v);
+    let p = behind_variable(body, b.place);
+    Place { p, v, end: b.end }
 }

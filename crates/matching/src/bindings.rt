@@ -1,22 +1,23 @@
 // Bindings in the state. What is still to be tried is not stored: it follows from them.
-ghost use Rattle.std.specs.Prelude.{◌≡◌, ◌&&◌, [], ℕ, ◌+◌, ◌≤◌, ◌%◌, length, drop};
-ghost use Rattle.program.specs.Bytes.{put16};
+ghost use Rattle.std.specs.Prelude.{◌≡◌, ◌&&◌, [], ℕ, ◌+◌, ◌≤◌, length, drop};
+ghost use Rattle.program.specs.Bytes.{put16, get16};
 ghost use Rattle.patterns.specs.Names.{same_name};
 ghost use Rattle.patterns.specs.Equality.{eq_kind};
 ghost use Rattle.meaning.specs.Match.{Bindings, value_of};
 ghost use Rattle.text.specs.Fill.{Emitted, limit};
-ghost use Rattle.matching.specs.Bindings.{VariableAt, put_binding, RunAt, Run, Known};
+ghost use Rattle.matching.specs.Bindings.{VariableAt, put_binding, Numbers, RunAt, Run, Known};
 
 use image::number::read16;
 use image::part::name_part;
 use symbols::same_name;
-use text::emit::put_byte;
+use text::emit::put_bytes;
 
-// The low byte of n.
-fn low_byte(n: usize) -> u8
-    ensures { result ≡ n % 256 }
+// The 16-bit number at a place.
+fn number_at(work: &[u8], at: usize) -> usize
+    requires { at + 2 ≤ length work.now }
+    ensures { result ≡ get16 work.now at }
 {
-    (n % 256) as u8
+    read16(work, at) as usize
 }
 
 // A 16-bit number.
@@ -24,26 +25,42 @@ fn put_number(work: &mut [u8], at: usize, n: usize) -> usize
     requires { at + 2 ≤ limit }
     ensures { Emitted work.old at (put16 n []) result work.new }
 {
-    let next = put_byte(work, at, low_byte(n));
-    put_byte(work, next, low_byte(n / 256))
+    put_bytes(work, at, &n.to_le_bytes()[..2])
 }
 
-// A binding.
-pub fn put_binding(
-    work: &mut [u8],
-    at: usize,
-    place: usize,
-    from: usize,
-    until: usize,
-    end: usize,
-) -> usize
-    requires { at + 8 ≤ limit }
-    ensures { Emitted work.old at (put_binding place from until end []) result work.new }
-{
-    let second = put_number(work, at, place);
-    let third = put_number(work, second, from);
-    let fourth = put_number(work, third, until);
-    put_number(work, fourth, end)
+// A binding: its variable's place in the body, where the value begins and ends, and where the expression ends that the pattern meets.
+#[derive(Clone, Copy)]
+pub struct Binding {
+    pub place: usize,
+    pub from: usize,
+    pub until: usize,
+    pub end: usize,
+}
+
+impl Binding {
+    // The binding at a place of the state.
+    pub fn read(work: &[u8], at: usize) -> Binding
+        requires { at + 8 ≤ length work.now }
+        ensures { Numbers work.now at result.place result.from result.until result.end }
+    {
+        Binding {
+            place: number_at(work, at),
+            from: number_at(work, at + 2),
+            until: number_at(work, at + 4),
+            end: number_at(work, at + 6),
+        }
+    }
+
+    // It stands at a place of the state from now on.
+    pub fn write(self, work: &mut [u8], at: usize) -> usize
+        requires { at + 8 ≤ limit }
+        ensures { Emitted work.old at (put_binding self.place self.from self.until self.end []) result work.new }
+    {
+        let second = put_number(work, at, self.place);
+        let third = put_number(work, second, self.from);
+        let fourth = put_number(work, third, self.until);
+        put_number(work, fourth, self.end)
+    }
 }
 
 // A binding's value ends at another place.
@@ -67,18 +84,16 @@ pub fn same_variable(a: &[u8], b: &[u8]) -> bool
     same_name(x, y)
 }
 
-// The newest binding of the variable at p, `frame` where there is none.
-pub fn lookup(body: &[u8], work: &[u8], top: usize, low: usize, frame: usize, p: usize) -> usize
-    requires { VariableAt (drop p body.now) × (frame ≤ length work.now) × Run body.now work.now top frame low }
-    ensures { (v : VariableAt (drop p body.now)) (b : Bindings) → RunAt body.now work.now top frame b low → Known work.now top frame result (value_of v.kind v.name b) }
+// The newest binding of the variable at p, if it has one from `low` up to `frame`.
+pub fn lookup(body: &[u8], work: &[u8], low: usize, frame: usize, p: usize) -> Option<usize>
+    requires { VariableAt (drop p body.now) × (frame ≤ length work.now) × ((top : ℕ) × Run body.now work.now top frame low) }
+    ensures { (v : VariableAt (drop p body.now)) (top : ℕ) (b : Bindings) → RunAt body.now work.now top frame b low → Known work.now top frame result (value_of v.kind v.name b) }
 {
-    let mut at = low;
-    while at < frame {
-        let place = read16(work, at) as usize;
-        if same_variable(&body[p..], &body[place..]) {
-            return at;
+    for at in (low..frame).step_by(8) {
+        let known = Binding::read(work, at);
+        if same_variable(&body[p..], &body[known.place..]) {
+            return Some(at);
         }
-        at += 8;
     }
-    at
+    None
 }

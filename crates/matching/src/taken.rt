@@ -9,73 +9,65 @@ ghost use Rattle.matching.specs.Binds.{BindsAs};
 ghost use Rattle.matching.specs.Pairs.{VariablePair};
 ghost use Rattle.matching.specs.Takes.{Takes, TakesUntil};
 
-use crate::bindings::put_binding;
-use crate::steps::{Met, behind_variable};
-use values::levels::{Front, term_end, value_len};
+use crate::bindings::Binding;
+use crate::steps::{Place, behind_variable};
+use values::levels::{term_end, value_len};
 
-// Where the value of the new `e.` variable at p ends first.
-fn any_end(body: &[u8], work: &[u8], p: usize, v: usize, end: usize) -> usize
-    requires { VariablePair body.now work.now p v end }
-    ensures { (q : VariablePair body.now work.now p v end) (b : Bindings) → q.kind ≡ e_kind → value_of q.kind q.name b ≡ none → Takes body.now work.now p v end q b result }
+// Where the value of a new `e.` variable ends first.
+fn any_end(body: &[u8], work: &[u8], at: Place) -> usize
+    requires { VariablePair body.now work.now at.p at.v at.end }
+    ensures { (q : VariablePair body.now work.now at.p at.v at.end) (b : Bindings) → q.kind ≡ e_kind → value_of q.kind q.name b ≡ none → Takes body.now work.now at.p at.v at.end q b result }
 {
-    let next = behind_variable(body, p);
+    let next = behind_variable(body, at.p);
     if body[next] == 15 {
-        return v + value_len(&work[v..end]);
+        return at.v + value_len(&work[at.v..at.end]);
     }
-    v
+    at.v
 }
 
-// Where the value of the new `s.` or `t.` variable at p ends, if there is one for it.
-fn one_end(body: &[u8], work: &[u8], p: usize, v: usize, end: usize) -> Front
-    requires { VariablePair body.now work.now p v end }
-    ensures { (q : VariablePair body.now work.now p v end) (b : Bindings) → (q.kind ≡ e_kind → ⊥) → value_of q.kind q.name b ≡ none → TakesUntil body.now work.now p v end q b result }
+// Where the value of a new `s.` or `t.` variable ends, if there is one for it.
+fn one_end(body: &[u8], work: &[u8], at: Place) -> Option<usize>
+    requires { VariablePair body.now work.now at.p at.v at.end }
+    ensures { (q : VariablePair body.now work.now at.p at.v at.end) (b : Bindings) → (q.kind ≡ e_kind → ⊥) → value_of q.kind q.name b ≡ none → TakesUntil body.now work.now at.p at.v at.end q b result }
 {
-    if v == end {
-        return Front::Nowhere;
+    if at.v == at.end {
+        return None;
     }
-    let x = &work[v..end];
+    let x = &work[at.v..at.end];
     let m = x[0];
     if m == 15 {
-        return Front::Nowhere;
+        return None;
     }
-    if body[p] == 4 {
-        if m == 7 {
-            return Front::Nowhere;
-        }
+    if m == 7 && body[at.p] == 4 {
+        return None;
     }
-    Front::Until(v + term_end(x))
+    Some(at.v + term_end(x))
 }
 
-// Where the value of the new variable at p ends first, if there is one for it.
-pub fn taken_end(body: &[u8], work: &[u8], p: usize, v: usize, end: usize) -> Front
-    requires { VariablePair body.now work.now p v end }
-    ensures { (q : VariablePair body.now work.now p v end) (b : Bindings) → value_of q.kind q.name b ≡ none → TakesUntil body.now work.now p v end q b result }
+// Where the value of a new variable ends first, if there is one for it.
+pub fn taken_end(body: &[u8], work: &[u8], at: Place) -> Option<usize>
+    requires { VariablePair body.now work.now at.p at.v at.end }
+    ensures { (q : VariablePair body.now work.now at.p at.v at.end) (b : Bindings) → value_of q.kind q.name b ≡ none → TakesUntil body.now work.now at.p at.v at.end q b result }
 {
-    if body[p] == 6 {
-        return Front::Until(any_end(body, work, p, v, end));
+    if body[at.p] == 6 {
+        return Some(any_end(body, work, at));
     }
-    one_end(body, work, p, v, end)
+    one_end(body, work, at)
 }
 
-// The new variable at p is bound below `low`, if there is a value for it.
-pub fn bind_new(
-    body: &[u8],
-    work: &mut [u8],
-    top: usize,
-    low: usize,
-    p: usize,
-    v: usize,
-    end: usize,
-) -> Met
-    requires { VariablePair body.now work.old p v end × (top + 8 ≤ low) × (low ≤ length work.old) × (length work.old ≤ limit) × (end ≤ top) × (top < 65536) × (p < 65536) }
-    ensures { (q : VariablePair body.now work.old p v end) (b : Bindings) (frame : ℕ) → low ≤ frame → value_of q.kind q.name b ≡ none → RunAt body.now work.old top frame b low → BindsAs body.now work.old work.new top frame (low - 8) p v end q b result }
+// A new variable is bound below `low`, if there is a value for it.
+pub fn bind_new(body: &[u8], work: &mut [u8], low: usize, at: Place) -> Option<Place>
+    requires { VariablePair body.now work.old at.p at.v at.end × (8 ≤ low) × (low ≤ length work.old) × (length work.old ≤ limit) × (at.p < 65536) }
+    ensures { (q : VariablePair body.now work.old at.p at.v at.end) (b : Bindings) (top frame : ℕ) → (top + 8 ≤ low) × (at.end ≤ top) × (top < 65536) × (low ≤ frame) → value_of q.kind q.name b ≡ none → RunAt body.now work.old top frame b low → BindsAs body.now work.old work.new top frame (low - 8) at.p at.v at.end q b result }
 {
-    let f = taken_end(body, work, p, v, end);
-    match f {
-        Front::Until(until) => {
-            put_binding(work, low - 8, p, v, until, end);
-            Met::On(behind_variable(body, p), until)
-        }
-        Front::Nowhere => Met::Failed,
-    }
+    let until = taken_end(body, work, at)?;
+    let binding = Binding {
+        place: at.p,
+        from: at.v,
+        until,
+        end: at.end,
+    };
+    binding.write(work, low - 8);
+    let p = behind_variable(body, at.p);
+    Some(Place { p, v: until, ..at })
 }

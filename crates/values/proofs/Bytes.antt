@@ -2,6 +2,7 @@
 use Prim.Native.Nat.{ℕ, suc, ◌+◌, ◌*◌, ◌-◌, ◌<◌, ◌≤◌, max}
 use native.Mathlib.Omega.{arith}
 use mathlib.Core.Path.{◌≡◌, refl, sym, ap, subst, ◌∙◌}
+use mathlib.Core.Logic.{◌⊎◌, ⊎_elim}
 use mathlib.Core.Bool.{Bool, true, false}
 use mathlib.Core.List.{List, [], ◌∷◌, ◌++◌, append-nil}
 use mathlib.Core.Option.{Option, none, some, some-injective}
@@ -14,6 +15,7 @@ use Rattle.program.specs.Bytes.{put32, put_span, put_name, get_span}
 use Rattle.program.specs.Encode.{put_symbol}
 use Rattle.patterns.specs.Symbols.{same_symbol}
 use Rattle.patterns.specs.Marks.{zero_span}
+use Rattle.image.specs.Parts.{token_length}
 use Rattle.symbols.specs.Parts.{SymbolAt}
 use Rattle.symbols.proofs.Parts.{two_sorts}
 use Rattle.meaning.specs.Inputs.{Token, Reading, first_token}
@@ -21,8 +23,7 @@ use Rattle.meaning.proofs.Inputs.{symbol_bytes}
 use Rattle.meaning.proofs.Tokens.{first_says, Sized, first-sized, KindOf, token-kind, ValidToken, token-valid, put_token, token_bytes, token-bytes, token-stands}
 use Rattle.meaning.proofs.Fronts.{same_token}
 use Rattle.values.specs.Counting.{owed_after}
-use Rattle.values.specs.Values.{token_size, TokenAt}
-use Rattle.values.proofs.Sizes.{size-some}
+use Rattle.values.specs.Values.{TokenAt}
 use Rattle.values.proofs.Turns.{owed_small}
 
 -- ---- its size by its mark
@@ -47,7 +48,19 @@ first-marked s =
     (λ e f g. record { closing = λ h. absurd (omega (arith, e, h)); opening = λ h. absurd (omega (arith, e, h)); code = λ h. absurd (omega (arith, e, h)); name = λ h k l. refl; spanned = λ h. omega arith })
     (λ e f g. record { closing = λ h. absurd (omega (arith, e, h)); opening = λ h. absurd (omega (arith, e, h)); code = λ h. absurd (omega (arith, e, h)); name = λ h k l. refl; spanned = λ h. omega arith })
 
+-- The image's length of a token is its size.
+abbrev Lasting : List ℕ → Option Reading → Type 0
+Lasting s none = Unit {0}
+Lasting s (some r) = token_length s ≡ r.size
+
+first-lasting : (s : List ℕ) → Lasting s (first_token s)
+unfolding token_length
+first-lasting s = first_says s (Lasting s) tt (λ e. rw e refl) (λ e f. rw e refl) (λ e f g. rw e refl) (λ e f g. rw e refl) (λ e f g. rw e refl)
+
 module _ {s : List ℕ} (t : TokenAt s) where
+  pub lasts : token_length s ≡ t.reading.size
+  lasts = subst (Lasting s) t.is (first-lasting s)
+
   pub by_mark : ByMark s t.reading.size
   by_mark = subst (Marked s) t.is (first-marked s)
 
@@ -148,11 +161,14 @@ module _ {a b : List ℕ} (small-a : (i : ℕ) → get_or a i 0 < 256) (small_b 
       let q = symbol_with b u.reading.token (get_span b 1) (drop u.reading.size b) y (token-stands b small_b u.reading u.is) (token-valid b u.reading u.is) f in
       sym (ap (λ (z : Symbol). same_symbol z y) p.1) ∙ (sym (ap (λ (z : Symbol). same_symbol p.0.symbol z) q.1) ∙ two_sorts p.0 q.0 h))
 
-  pub openings : get_or a 0 0 ≡ 7 → get_or b 0 0 ≡ 7 → same_token t.reading.token u.reading.token ≡ true
-  openings e f = opening-same t.reading.token u.reading.token (get_or a 0 0) (get_or b 0 0) (token-kind a t.reading t.is) (token-kind b u.reading u.is) e f
-
-  pub closings : get_or a 0 0 ≡ 15 → get_or b 0 0 ≡ 15 → same_token t.reading.token u.reading.token ≡ true
-  closings e f = closing_same t.reading.token u.reading.token (get_or a 0 0) (get_or b 0 0) (token-kind a t.reading t.is) (token-kind b u.reading u.is) e f
+  pub brackets : get_or a 0 0 ≡ get_or b 0 0 → (get_or a 0 0 ≡ 7) ⊎ (get_or a 0 0 ≡ 15) → same_token t.reading.token u.reading.token ≡ true
+  brackets e h =
+      let k = token-kind a t.reading t.is in
+      let l = token-kind b u.reading u.is in
+      ⊎_elim
+      (λ f. opening-same t.reading.token u.reading.token (get_or a 0 0) (get_or b 0 0) k l f (sym e ∙ f))
+      (λ f. closing_same t.reading.token u.reading.token (get_or a 0 0) (get_or b 0 0) k l f (sym e ∙ f))
+      h
 
 pub symbols_same : (t u : Token) (x y : Symbol) → t ≡ Token.symbol x → u ≡ Token.symbol y → same_symbol x y ≡ same_token t u
 unfolding same_token
@@ -160,13 +176,11 @@ symbols_same t u x y e f = sym (ap (λ (z : Token). same_token z u) e ∙ ap (λ
 
 -- ---- closes owed are few: a term takes nine bytes at least
 
-pub owed-room : (x : List ℕ) (n d e at : ℕ) → n ≡ token_size x → (n ≡ 0 → ⊥) → e ≡ owed_after (get_or x 0 0) d → 4 * d ≤ at → 4 * e ≤ at + n
-owed-room x n d e at size some-token q h =
-    let o = size-some x (λ z. some-token (size ∙ z)) in
-    let w = by_mark (record { reading = o.0; is = o.1 }) in
+pub owed-room : {x : List ℕ} (t : TokenAt x) {n : ℕ} → n ≡ t.reading.size → (d e at : ℕ) → e ≡ owed_after (get_or x 0 0) d → 4 * d ≤ at → 4 * e ≤ at + n
+owed-room {x} t {n} size d e at q h =
     let g = owed_small (get_or x 0 0) d q in
-    by (eqb (get_or x 0 0) 15) refl o.2 w.spanned g.0 g.1
+    by (eqb (get_or x 0 0) 15) refl (by_mark t).spanned g.0 g.1
   where
-    by : (t : Bool) → eqb (get_or x 0 0) 15 ≡ t → {i : ℕ} → i ≡ token_size x → ((get_or x 0 0 ≡ 15 → ⊥) → 9 ≤ i) → (get_or x 0 0 ≡ 15 → e ≤ d) → e ≤ 1 + max 1 d → 4 * e ≤ at + n
-    by true f r s a b = let k = a (eqb-true (get_or x 0 0) 15 f) in omega arith
-    by false f r s a b = let k = s (eqb-false (get_or x 0 0) 15 f) in omega (arith, k, r, size)
+    by : (u : Bool) → eqb (get_or x 0 0) 15 ≡ u → ((get_or x 0 0 ≡ 15 → ⊥) → 9 ≤ t.reading.size) → (get_or x 0 0 ≡ 15 → e ≤ d) → e ≤ 1 + max 1 d → 4 * e ≤ at + n
+    by true f s a b = let k = a (eqb-true (get_or x 0 0) 15 f) in omega arith
+    by false f s a b = let k = s (eqb-false (get_or x 0 0) 15 f) in omega (arith, k, size)

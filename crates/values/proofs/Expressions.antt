@@ -24,10 +24,12 @@ use Rattle.meaning.proofs.Tokens.{Turned, turned, tokens-end, Sized, first-sized
 use Rattle.meaning.proofs.Fronts.{rest_after, nothing_left, same-is, same_token, in_step, tokens_if, front_in_step}
 use Rattle.text.specs.Fill.{Emitted}
 use Rattle.text.proofs.Fill.{emitted-same, emitted-append, emitted-nothing}
-use Rattle.values.specs.declared.levels.Front.{Front}
+use Rattle.std.specs.Prelude.{Option as Found, Some, None}
+use Rattle.std.specs.Option.{option_eq}
 use Rattle.values.specs.Counting.{depth_after}
 use Rattle.values.specs.Values.{TokenAt, ValueAt, LevelAt, Ends, rest_of, FrontOf}
-use Rattle.values.proofs.Turns.{depth_opening, depth_closing, depth_other}
+use Rattle.symbols.proofs.Parts.{part_rest}
+use Rattle.values.proofs.Turns.{part, depth_opening, depth_closing, depth_other}
 
 -- ---- one token more
 
@@ -70,10 +72,40 @@ module _ (s : List ℕ) (at : ℕ) (l : List Token) (is : tokens (drop at s) ≡
         size = e ∙ token-bytes x t.reading t.is;
       }
 
-pub token-room : (s : List ℕ) (at : ℕ) (x : List ℕ) → x ≡ drop at s → (t : TokenAt x) → (1 ≤ t.reading.size) × (t.reading.size ≤ length s - at)
-token-room s at x q t =
-    let z = subst (Sized x) t.is (first-sized x) in
-    (z.0, subst (λ (i : ℕ). t.reading.size ≤ i) (ap length q ∙ length-drop at s) z.1)
+-- Where no token of the level is left.
+unfoldable pub Done : List Token → ℕ → Type 0
+Done left d = (level_text left d ≡ []) × (level_rest left d ≡ left)
+
+closed_done : (t : Token) (more left : List Token) (m d : ℕ) → left ≡ t ∷ more → KindOf m t → m ≡ 15 → d ≡ 0 → Done left d
+unfolding Done level_text level_rest
+closed_done (Token.symbol x) more left m d e k f z = absurd (k.0 f)
+closed_done Token.opening more left m d e k f z = absurd (omega (arith, k, f))
+closed_done Token.closing more left m zero e k f z = (ap (λ (y : List Token). level_text y 0) e, ap (λ (y : List Token). level_rest y 0) e ∙ sym e)
+closed_done Token.closing more left m (suc d) e k f z = absurd (omega (arith, z))
+
+-- The part that begins at a place, with the tokens from there on.
+module _ (s : List ℕ) (at : ℕ) {left : List Token} (is : tokens (drop at s) ≡ some left) (inside : at < length s) where
+  pub part-token : TokenAt (part s at)
+  part-token = token-at s at left is inside (part s at) (part_rest s at)
+
+  pub part-room : {n : ℕ} → ((t : TokenAt (part s at)) → n ≡ t.reading.size) → (1 ≤ n) × (n ≤ length s - at)
+  part-room size =
+      let t = part-token in
+      let e = size t in
+      let z = subst (Sized (part s at)) t.is (first-sized (part s at)) in
+      (omega (arith, z.0, e), omega (arith, z.1, e, ap length (part_rest s at), length-drop at s))
+
+  pub part-onward : {n : ℕ} → ((t : TokenAt (part s at)) → n ≡ t.reading.size) → Onward s at n part-token.reading.token left
+  part-onward {n} size = onward s at left is inside (part s at) (part_rest s at) part-token n (size part-token)
+
+  pub part_kind : KindOf (get_or (part s at) 0 0) part-token.reading.token
+  part_kind = token-kind (part s at) part-token.reading part-token.is
+
+  pub part-split : Onward s at part-token.reading.size part-token.reading.token left
+  part-split = onward s at left is inside (part s at) (part_rest s at) part-token part-token.reading.size refl
+
+  pub part_closed : {d : ℕ} → (get_or (part s at) 0 0 ≡ 15) × (d ≡ 0) → Done left d
+  part_closed {d} h = closed_done part-token.reading.token part-split.more left (get_or (part s at) 0 0) d part-split.split part_kind h.0 h.1
 
 -- ---- the length of an expression
 
@@ -86,36 +118,19 @@ pub record Passed (s : List ℕ) (l : List Token) (at d : ℕ) : Type 0 where
 pub passed_first : (s : List ℕ) (l : List Token) → tokens s ≡ some l → Passed s l 0 0
 passed_first s l e = record { left = l; is = e; bytes = omega arith; rest = refl }
 
-module _ {s : List ℕ} {l : List Token} {at d : ℕ} (p : Passed s l at d) where
-  pub passed_more : at < length s → (x : List ℕ) → x ≡ drop at s → (t : TokenAt x) (n : ℕ) → n ≡ t.reading.size → (get_or x 0 0 ≡ 15 → 0 < d) → (e : ℕ) → e ≡ depth_after (get_or x 0 0) d → Passed s l (at + n) e
-  passed_more h x q t n size k e f =
-      let o = onward s at p.left p.is h x q t n size in
-      let tok = t.reading.token in
-      let kind = token-kind x t.reading t.is in
-      let text : level_text p.left d ≡ put_token zero_span tok (level_text o.more e) = ap (λ (y : List Token). level_text y d) o.split ∙ text-next tok o.more (get_or x 0 0) d e kind k f in
-      record {
-        left = o.more;
-        is = o.is;
-        bytes = omega (arith, p.bytes, ap length text, put_length tok (level_text o.more e), o.size);
-        rest = sym (rest-next tok o.more (get_or x 0 0) d e kind k f) ∙ (sym (ap (λ (y : List Token). level_rest y d) o.split) ∙ p.rest);
-      }
-
--- Where no token of the level is left.
-unfoldable pub Done : List Token → ℕ → Type 0
-Done left d = (level_text left d ≡ []) × (level_rest left d ≡ left)
-
-closed_done : (t : Token) (more left : List Token) (m d : ℕ) → left ≡ t ∷ more → KindOf m t → m ≡ 15 → d ≡ 0 → Done left d
-unfolding Done level_text level_rest
-closed_done (Token.symbol x) more left m d e k f z = absurd (k.0 f)
-closed_done Token.opening more left m d e k f z = absurd (omega (arith, k, f))
-closed_done Token.closing more left m zero e k f z = (ap (λ (y : List Token). level_text y 0) e, ap (λ (y : List Token). level_rest y 0) e ∙ sym e)
-closed_done Token.closing more left m (suc d) e k f z = absurd (omega (arith, z))
-
-pub closed_here : (s : List ℕ) (at d : ℕ) (left : List Token) → tokens (drop at s) ≡ some left → at < length s → (x : List ℕ) → x ≡ drop at s → get_or x 0 0 ≡ 15 → d ≡ 0 → Done left d
-closed_here s at d left is h x q f z =
-    let t = token-at s at left is h x q in
-    let o = onward s at left is h x q t t.reading.size refl in
-    closed_done t.reading.token o.more left (get_or x 0 0) d o.split (token-kind x t.reading t.is) f z
+pub passed_more : {s : List ℕ} {l : List Token} {at d : ℕ} (p : Passed s l at d) → at < length s → {n e : ℕ} → ((t : TokenAt (part s at)) → n ≡ t.reading.size) → (e ≡ depth_after (get_or (part s at) 0 0) d) × (get_or (part s at) 0 0 ≡ 15 → 0 < d) → Passed s l (at + n) e
+passed_more {s} {l} {at} {d} p h {n} {e} size g =
+    let o = part-onward s at p.is h size in
+    let t = (part-token s at p.is h).reading.token in
+    let m = get_or (part s at) 0 0 in
+    let k = part_kind s at p.is h in
+    let text : level_text p.left d ≡ put_token zero_span t (level_text o.more e) = ap (λ (y : List Token). level_text y d) o.split ∙ text-next t o.more m d e k g.1 g.0 in
+    record {
+      left = o.more;
+      is = o.is;
+      bytes = omega (arith, p.bytes, ap length text, put_length t (level_text o.more e), o.size);
+      rest = sym (rest-next t o.more m d e k g.1 g.0) ∙ (sym (ap (λ (y : List Token). level_rest y d) o.split) ∙ p.rest);
+    }
 
 pub ended_here : (s : List ℕ) (at d : ℕ) (left : List Token) → tokens (drop at s) ≡ some left → length s ≤ at → Done left d
 unfolding Done level_text level_rest
@@ -161,20 +176,23 @@ pub record Wrote (s : List ℕ) (l : List Token) (out₀ : List ℕ) (at : ℕ) 
 pub wrote_first : (s : List ℕ) (l : List Token) (out : List ℕ) (at : ℕ) → tokens s ≡ some l → Wrote s l out at out 0 0
 wrote_first s l out at e = record { left = l; is = e; text = []; emitted = subst (λ (j : ℕ). Emitted out at [] j out) (sym (add-zero at)) (emitted-nothing out at); whole = refl }
 
-module _ {s : List ℕ} {l : List Token} {out₀ : List ℕ} {at : ℕ} {out : List ℕ} {i d : ℕ} (p : Wrote s l out₀ at out i d) where
-  pub wrote_more : i < length s → (x : List ℕ) → x ≡ drop i s → (t : TokenAt x) (n : ℕ) → n ≡ t.reading.size → (get_or x 0 0 ≡ 15 → 0 < d) → (e : ℕ) → e ≡ depth_after (get_or x 0 0) d → (r : ℕ) (new : List ℕ) → Emitted out (at + i) (put_token zero_span t.reading.token []) r new → Wrote s l out₀ at new (i + n) e
-  wrote_more h x q t n size k e f r new w =
-      let o = onward s i p.left p.is h x q t n size in
-      let tok = t.reading.token in
-      let text : level_text p.left d ≡ put_token zero_span tok (level_text o.more e) = ap (λ (y : List Token). level_text y d) o.split ∙ text-next tok o.more (get_or x 0 0) d e (token-kind x t.reading t.is) k f in
-      let place : r ≡ at + (i + n) = omega (arith, w.after, put_length tok [], o.size) in
-      record {
-        left = o.more;
-        is = o.is;
-        text = p.text ++ put_token zero_span tok [];
-        emitted = subst (λ (j : ℕ). Emitted out₀ at (p.text ++ put_token zero_span tok []) j new) place (emitted-append p.text (put_token zero_span tok []) p.emitted w);
-        whole = append_assoc p.text (put_token zero_span tok []) (level_text o.more e) ∙ (ap (λ (y : List ℕ). p.text ++ y) (sym (text ∙ put_append tok (level_text o.more e))) ∙ p.whole);
-      }
+pub wrote_more :
+    {s : List ℕ} {l : List Token} {out₀ : List ℕ} {at : ℕ} {out : List ℕ} {i d : ℕ} (p : Wrote s l out₀ at out i d) → i < length s
+    → {n e : ℕ} → ((t : TokenAt (part s i)) → n ≡ t.reading.size) → (e ≡ depth_after (get_or (part s i) 0 0) d) × (get_or (part s i) 0 0 ≡ 15 → 0 < d)
+    → {r : ℕ} {new : List ℕ} → ((t : TokenAt (part s i)) → Emitted out (at + i) (put_token zero_span t.reading.token []) r new) → Wrote s l out₀ at new (i + n) e
+wrote_more {s} {l} {out₀} {at} {out} {i} {d} p h {n} {e} size g {r} {new} written =
+    let o = part-onward s i p.is h size in
+    let t = (part-token s i p.is h).reading.token in
+    let w = written (part-token s i p.is h) in
+    let text : level_text p.left d ≡ put_token zero_span t (level_text o.more e) = ap (λ (y : List Token). level_text y d) o.split ∙ text-next t o.more (get_or (part s i) 0 0) d e (part_kind s i p.is h) g.1 g.0 in
+    let place : r ≡ at + (i + n) = omega (arith, w.after, put_length t [], o.size) in
+    record {
+      left = o.more;
+      is = o.is;
+      text = p.text ++ put_token zero_span t [];
+      emitted = subst (λ (j : ℕ). Emitted out₀ at (p.text ++ put_token zero_span t []) j new) place (emitted-append p.text (put_token zero_span t []) p.emitted w);
+      whole = append_assoc p.text (put_token zero_span t []) (level_text o.more e) ∙ (ap (λ (y : List ℕ). p.text ++ y) (sym (text ∙ put_append t (level_text o.more e))) ∙ p.whole);
+    }
 
 pub level-written : {s : List ℕ} {out₀ : List ℕ} {at : ℕ} {out : List ℕ} {i d : ℕ} (v : LevelAt s) (p : Wrote s (tokens_of v.level v.behind) out₀ at out i d) → Done p.left d → Emitted out₀ at (put_expression v.level []) (at + i) out
 unfolding Done
@@ -313,40 +331,42 @@ put_tokens_length l t more e = ap (λ (y : List Token). length (put_tokens y [])
 module _ {a b : List ℕ} {l k : List Token} {i j : ℕ} (p : Stepped a b l k i j) where
   pub stepped_short : i < length a → length b ≤ j → in_step l k ≡ none
   stepped_short h g =
-      let t = token-at a i p.left_a p.is_a h (drop i a) refl in
-      let o = onward a i p.left_a p.is_a h (drop i a) refl t t.reading.size refl in
-      sym p.same ∙ step_cut p.left_a p.left_b t.reading.token o.more o.split (some-injective p.left_b [] (sym p.is_b ∙ tokens-end (drop j b) (simp length-drop (omega arith))))
+      let o = part-split a i p.is_a h in
+      sym p.same ∙ step_cut p.left_a p.left_b (part-token a i p.is_a h).reading.token o.more o.split (some-injective p.left_b [] (sym p.is_b ∙ tokens-end (drop j b) (simp length-drop (omega arith))))
 
-  module _ (h : i < length a) (g : j < length b) (x y : List ℕ) (q : x ≡ drop i a) (r : y ≡ drop j b) (t : TokenAt x) (u : TokenAt y) where
-    pub stepped_off : same_token t.reading.token u.reading.token ≡ false → in_step l k ≡ none
+  module _ (h : i < length a) (g : j < length b) {t : Bool} (told : (x : TokenAt (part a i)) (y : TokenAt (part b j)) → t ≡ same_token x.reading.token y.reading.token) where
+    first-same : t ≡ same_token (part-token a i p.is_a h).reading.token (part-token b j p.is_b g).reading.token
+    first-same = told (part-token a i p.is_a h) (part-token b j p.is_b g)
+
+    pub stepped_off : t ≡ false → in_step l k ≡ none
     stepped_off e =
-        let o = onward a i p.left_a p.is_a h x q t t.reading.size refl in
-        let w = onward b j p.left_b p.is_b g y r u u.reading.size refl in
-        sym p.same ∙ step_off p.left_a p.left_b t.reading.token u.reading.token o.more w.more o.split w.split e
+        let o = part-split a i p.is_a h in
+        let w = part-split b j p.is_b g in
+        sym p.same ∙ step_off p.left_a p.left_b (part-token a i p.is_a h).reading.token (part-token b j p.is_b g).reading.token o.more w.more o.split w.split (sym first-same ∙ e)
 
-    pub stepped_on : same_token t.reading.token u.reading.token ≡ true → (n m : ℕ) → n ≡ t.reading.size → m ≡ u.reading.size → Stepped a b l k (i + n) (j + m)
-    stepped_on e n m f d =
-        let o = onward a i p.left_a p.is_a h x q t n f in
-        let w = onward b j p.left_b p.is_b g y r u m d in
+    pub stepped_on : t ≡ true → {n m : ℕ} → ((x : TokenAt (part a i)) → n ≡ x.reading.size) → ((y : TokenAt (part b j)) → m ≡ y.reading.size) → Stepped a b l k (i + n) (j + m)
+    stepped_on e size-a size_b =
+        let o = part-onward a i p.is_a h size-a in
+        let w = part-onward b j p.is_b g size_b in
         record {
           left_a = o.more;
           left_b = w.more;
           is_a = o.is;
           is_b = w.is;
-          same = sym (step_on p.left_a p.left_b t.reading.token u.reading.token o.more w.more o.split w.split e) ∙ p.same;
-          bytes = omega (arith, p.bytes, w.size, put_tokens_length p.left_b u.reading.token w.more w.split);
+          same = sym (step_on p.left_a p.left_b (part-token a i p.is_a h).reading.token (part-token b j p.is_b g).reading.token o.more w.more o.split w.split (sym first-same ∙ e)) ∙ p.same;
+          bytes = omega (arith, p.bytes, w.size, put_tokens_length p.left_b (part-token b j p.is_b g).reading.token w.more w.split);
         }
 
   pub stepped_end : length a ≤ i → in_step l k ≡ some p.left_b
   unfolding in_step
   stepped_end h = sym p.same ∙ ap (λ (y : List Token). in_step y p.left_b) (some-injective p.left_a [] (sym p.is_a ∙ tokens-end (drop i a) (simp length-drop (omega arith))))
 
-front-none : (v : Expression) (o : Option Expression) (k : List Token) → tokens_if o k ≡ none → FrontOf v o Front.Nowhere
+front-none : (v : Expression) (o : Option Expression) (k : List Token) → tokens_if o k ≡ none → FrontOf v o None
 unfolding tokens_if
 front-none v none k e = tt
 front-none v (some w) k e = let z : ◌≡◌ {A = ℕ} 0 1 = cc in omega arith
 
-front-some : (v : Expression) (o : Option Expression) (k left : List Token) (j : ℕ) → tokens_if o k ≡ some left → j + length (put_tokens left []) ≡ length (put_tokens (tokens_of v k) []) → FrontOf v o (Front.Until j)
+front-some : (v : Expression) (o : Option Expression) (k left : List Token) (j : ℕ) → tokens_if o k ≡ some left → j + length (put_tokens left []) ≡ length (put_tokens (tokens_of v k) []) → FrontOf v o (Some j)
 unfolding tokens_if
 front-some v none k left j e b = absurd (let z : ◌≡◌ {A = ℕ} 0 1 = cc in omega arith)
 front-some v (some w) k left j e b =
@@ -358,10 +378,10 @@ module _ {a b : List ℕ} (u : ValueAt a) (v : LevelAt b) where
   in_step_lem : in_step (tokens_of u.expression []) (tokens_of v.level v.behind) ≡ tokens_if (rest_after u.expression v.level) v.behind
   in_step_lem = front_in_step u.expression v.level v.behind v.ends
 
-  pub front-nowhere : in_step (tokens_of u.expression []) (tokens_of v.level v.behind) ≡ none → FrontOf v.level (rest_after u.expression v.level) Front.Nowhere
+  pub front-nowhere : in_step (tokens_of u.expression []) (tokens_of v.level v.behind) ≡ none → FrontOf v.level (rest_after u.expression v.level) None
   front-nowhere e = front-none v.level (rest_after u.expression v.level) v.behind (sym in_step_lem ∙ e)
 
-  pub front_until : {i j : ℕ} (p : Stepped a b (tokens_of u.expression []) (tokens_of v.level v.behind) i j) → length a ≤ i → FrontOf v.level (rest_after u.expression v.level) (Front.Until j)
+  pub front_until : {i j : ℕ} (p : Stepped a b (tokens_of u.expression []) (tokens_of v.level v.behind) i j) → length a ≤ i → FrontOf v.level (rest_after u.expression v.level) (Some j)
   front_until {i} {j} p h = front-some v.level (rest_after u.expression v.level) v.behind p.left_b j (sym in_step_lem ∙ stepped_end p h) p.bytes
 
 pub value-tokens : {s : List ℕ} (u : ValueAt s) → tokens s ≡ some (tokens_of u.expression [])
@@ -406,18 +426,16 @@ nothing-bytes void j n e = sym (eq-eqb j n (omega (arith, e, void-bytes)))
 nothing-bytes (atom x w) j n e = sym (ne_eqb j n (λ z. omega (arith, z, e, atom-length x w (symbol_bytes x) refl, symbol-bytes x)))
 nothing-bytes (group u w) j n e = sym (ne_eqb j n (λ z. omega (arith, z, e, group-length u w (bytes_of u) refl)))
 
-left-told : (o : Option Expression) (v : Expression) (j n : ℕ) → n ≡ bytes_of v → FrontOf v o (Front.Until j) → eqb j n ≡ nothing_left o
+left-told : (o : Option Expression) (v : Expression) (j n : ℕ) → n ≡ bytes_of v → FrontOf v o (Some j) → eqb j n ≡ nothing_left o
 left-told none v j n e f = absurd f
 left-told (some w) v j n e f = sym (nothing-bytes w j n (f ∙ sym e))
 
-left-nowhere : (o : Option Expression) (v : Expression) → FrontOf v o Front.Nowhere → false ≡ nothing_left o
+left-nowhere : (o : Option Expression) (v : Expression) → FrontOf v o None → false ≡ nothing_left o
 unfolding nothing_left
 left-nowhere none v f = refl
 left-nowhere (some w) v f = absurd f
 
 module _ {a b : List ℕ} (u : ValueAt a) (v : ValueAt b) where
-  pub same_until : (j : ℕ) → FrontOf v.expression (rest_after u.expression v.expression) (Front.Until j) → eqb j (length b) ≡ same_expression u.expression v.expression
-  same_until j f = left-told (rest_after u.expression v.expression) v.expression j (length b) (value-length v) f ∙ sym (same-is u.expression v.expression)
-
-  pub same-nowhere : FrontOf v.expression (rest_after u.expression v.expression) Front.Nowhere → false ≡ same_expression u.expression v.expression
-  same-nowhere f = left-nowhere (rest_after u.expression v.expression) v.expression f ∙ sym (same-is u.expression v.expression)
+  pub same-told : (o : Found ℕ) → FrontOf v.expression (rest_after u.expression v.expression) o → option_eq eqb o (Some (length b)) ≡ same_expression u.expression v.expression
+  same-told None f = left-nowhere (rest_after u.expression v.expression) v.expression f ∙ sym (same-is u.expression v.expression)
+  same-told (Some j) f = left-told (rest_after u.expression v.expression) v.expression j (length b) (value-length v) f ∙ sym (same-is u.expression v.expression)

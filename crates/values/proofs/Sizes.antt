@@ -1,23 +1,23 @@
--- The first token by its mark, as `token_size` finds it, and by what the reader's rules say of its span, code or name.
+-- Whether there is a token by its mark, as `is_token` finds it, and by what the reader's rules say of its span, code or name.
 use Prim.Native.Nat.{ℕ, zero, suc, ◌+◌, ◌≤◌}
 use native.Mathlib.Omega.{arith}
-use mathlib.Core.Path.{◌≡◌, refl, sym, ap, ◌∙◌}
-use mathlib.Core.Bool.{Bool, true, false, ◌&&◌, cond}
+use mathlib.Core.Path.{◌≡◌, refl, sym, ap, subst}
+use mathlib.Core.Bool.{Bool, true, false, true≢false, ◌&&◌, cond}
 use mathlib.Core.List.{List, [], ◌∷◌}
 use mathlib.Core.Option.{Option, none, some}
 use lib.Dec.{eqb, leb, ltb, leb-zero, leb-suc-zero, leb-suc-suc}
 use lib.ListN.{length, get_or, take, drop, length-drop}
-use borrow.Author.Tests.{ltb-true, ltb-false, leb-true, le-leb, lt-leb, eq-eqb, ne_eqb}
+use borrow.Author.Tests.{eqb-true, eqb-false, ltb-true, ltb-false, leb-true, le-leb, lt-leb, ne_eqb}
 use Rattle.program.specs.Bytes.{get32}
 use Rattle.program.specs.Limits.{pick, allowed, scalar}
 use Rattle.program.specs.Automaton.{Scan, scan}
-use Rattle.program.specs.declared.Refusal.{Refusal}
+use Rattle.std.specs.Prelude.{Ok, Err}
+use Rattle.std.specs.Result.{is_ok}
 use Rattle.patterns.proofs.Tests.{same_test}
 use Rattle.reader.specs.Steps.{refusal, refusal_of, span_refusal, name_refusal, code_refusal}
 use Rattle.meaning.specs.Lists.{all}
-use Rattle.meaning.specs.Inputs.{Token, Reading, span_fits, name_fits, code_fits, first_token}
-use Rattle.meaning.proofs.Tokens.{Sized, first-sized}
-use Rattle.values.specs.Values.{size_of, token_size}
+use Rattle.meaning.specs.Inputs.{Reading, span_fits, name_fits, code_fits, first_token}
+use Rattle.values.specs.Values.{is_read, TokenAt}
 
 -- ---- rules without a refusal
 
@@ -29,31 +29,31 @@ and_false true = refl
 and_false false = refl
 
 module _ (s : List ℕ) where
-  pub span-told : span_fits s ≡ eqb (span_refusal s 1).number 0
+  pub span-told : span_fits s ≡ is_ok (span_refusal s 1)
   unfolding span_fits span_refusal
   span-told = by (ltb (length s) 9) (ltb (get32 s 5) (get32 s 1)) refl refl
     where
-      by : (t u : Bool) → ltb (length s) 9 ≡ t → ltb (get32 s 5) (get32 s 1) ≡ u → (leb 9 (length s) && leb (get32 s 1) (get32 s 5)) ≡ eqb (pick t (refusal 5 (length s)) (pick u (refusal 8 1) (refusal 0 0))).number 0
+      by : (t u : Bool) → ltb (length s) 9 ≡ t → ltb (get32 s 5) (get32 s 1) ≡ u → (leb 9 (length s) && leb (get32 s 1) (get32 s 5)) ≡ is_ok (pick t (Err (refusal 5 (length s))) (pick u (Err (refusal 8 1)) (Ok (tt {0}))))
       by true u e f = rw (lt-leb 9 (length s) (ltb-true (length s) 9 e))
       by false true e f = rw (lt-leb (get32 s 1) (get32 s 5) (ltb-true (get32 s 5) (get32 s 1) f), le-leb 9 (length s) (ltb-false (length s) 9 e))
       by false false e f = rw (le-leb 9 (length s) (ltb-false (length s) 9 e), le-leb (get32 s 1) (get32 s 5) (ltb-false (get32 s 5) (get32 s 1) f))
 
-  pub code-told : code_fits s ≡ eqb (code_refusal s 9).number 0
+  pub code-told : code_fits s ≡ is_ok (code_refusal s 9)
   unfolding code_fits code_refusal
   code-told = by (ltb (length s) 13) (scalar (get32 s 9)) refl
     where
-      by : (t u : Bool) → ltb (length s) 13 ≡ t → (leb 13 (length s) && u) ≡ eqb (pick t (refusal 5 (length s)) (pick u (refusal 0 0) (refusal 7 9))).number 0
+      by : (t u : Bool) → ltb (length s) 13 ≡ t → (leb 13 (length s) && u) ≡ is_ok (pick t (Err (refusal 5 (length s))) (pick u (Ok (tt {0})) (Err (refusal 7 9))))
       by true u e = rw (lt-leb 13 (length s) (ltb-true (length s) 13 e))
       by false true e = rw (le-leb 13 (length s) (ltb-false (length s) 13 e))
       by false false e = rw (le-leb 13 (length s) (ltb-false (length s) 13 e))
 
-scan-told : (g : Bool) (n : ℕ) (s : List ℕ) (l : ℕ) → (leb n (length s) && all (allowed g) (take n s)) ≡ eqb (refusal_of l (scan g n s)).number 0
+scan-told : (g : Bool) (n : ℕ) (s : List ℕ) (l : ℕ) → (leb n (length s) && all (allowed g) (take n s)) ≡ is_ok (refusal_of l (scan g n s))
 unfolding scan refusal_of all
 scan-told g zero s l = rw (leb-zero (length s))
 scan-told g (suc n) [] l = rw (leb-suc-zero n)
 scan-told g (suc n) (b ∷ s) l = by (allowed g b) (scan-told g n s l)
   where
-    by : (t : Bool) → (leb n (length s) && all (allowed g) (take n s)) ≡ eqb (refusal_of l (scan g n s)).number 0 → (leb (suc n) (suc (length s)) && (t && all (allowed g) (take n s))) ≡ eqb (refusal_of l (pick t (scan g n s) (Scan.refuse 6 (suc (length s))))).number 0
+    by : (t : Bool) → (leb n (length s) && all (allowed g) (take n s)) ≡ is_ok (refusal_of l (scan g n s)) → (leb (suc n) (suc (length s)) && (t && all (allowed g) (take n s))) ≡ is_ok (refusal_of l (pick t (scan g n s) (Scan.refuse 6 (suc (length s)))))
     by true ih = rw (leb-suc-suc n (length s)) ih
     by false ih = and_false (leb (suc n) (suc (length s)))
 
@@ -64,27 +64,14 @@ module _ (s : List ℕ) (g : Bool) where
       (λ e. le-leb (get_or s 9 0) (length (drop 10 s)) (let k = leb-true (10 + get_or s 9 0) (length s) e in simp length-drop (omega arith)))
       (λ e. le-leb (10 + get_or s 9 0) (length s) (let k = simp length-drop at (leb-true (get_or s 9 0) (length (drop 10 s)) e) in omega arith))
 
-  pub name-told : name_fits g s ≡ eqb (name_refusal s 9 g).number 0
+  pub name-told : name_fits g s ≡ is_ok (name_refusal s 9 g)
   unfolding name_fits name_refusal
   name-told = by (ltb 0 (get_or s 9 0)) (leb (get_or s 9 0) 63) refl
     where
-      by : (t u : Bool) → ltb 0 (get_or s 9 0) ≡ t → (leb 1 (get_or s 9 0) && (u && (leb (10 + get_or s 9 0) (length s) && all (allowed g) (take (get_or s 9 0) (drop 10 s))))) ≡ eqb (pick t (pick u (refusal_of (length s) (scan g (get_or s 9 0) (drop 10 s))) (refusal 6 9)) (refusal 6 9)).number 0
+      by : (t u : Bool) → ltb 0 (get_or s 9 0) ≡ t → (leb 1 (get_or s 9 0) && (u && (leb (10 + get_or s 9 0) (length s) && all (allowed g) (take (get_or s 9 0) (drop 10 s))))) ≡ is_ok (pick t (pick u (refusal_of (length s) (scan g (get_or s 9 0) (drop 10 s))) (Err (refusal 6 9))) (Err (refusal 6 9)))
       by true true e = rw (e, name-long (ltb-true 0 (get_or s 9 0) e)) (scan-told g (get_or s 9 0) (drop 10 s) (length s))
       by true false e = rw e
       by false u e = rw e
-
--- What a refusal's number says of a rule, and the size by it.
-pub fits-yes : (t : Bool) (f g : Refusal) → t ≡ eqb g.number 0 → f ≡ g → f.number ≡ 0 → t ≡ true
-fits-yes t f g e q h = e ∙ eq-eqb g.number 0 (sym (ap (λ (x : Refusal). x.number) q) ∙ h)
-
-pub fits-no : (t : Bool) (f g : Refusal) → t ≡ eqb g.number 0 → f ≡ g → (f.number ≡ 0 → ⊥) → t ≡ false
-fits-no t f g e q h = e ∙ ne_eqb g.number 0 (λ z. h (ap (λ (x : Refusal). x.number) q ∙ z))
-
-pub pick_yes : (t : Bool) (n : ℕ) → t ≡ true → n ≡ pick t n 0
-pick_yes t n e = rw e
-
-pub pick_no : (t : Bool) (n : ℕ) → t ≡ false → 0 ≡ pick t n 0
-pick_no t n e = rw e
 
 -- ---- the size by the mark
 
@@ -93,62 +80,85 @@ past_end [] i h = refl
 past_end (b ∷ s) zero h = absurd (omega arith)
 past_end (b ∷ s) (suc i) h = past_end s i (omega arith)
 
+-- Whether there is a token, by the mark.
+read_if : (t : Bool) (r : Reading) → is_read (cond t (some r) none) ≡ t
+unfolding is_read
+read_if true r = refl
+read_if false r = refl
+
 module _ (s : List ℕ) where
-  pub name_cut : (g : Bool) → length s ≡ 9 → name_fits g s ≡ false
+  pub name_cut : (g : Bool) → length s ≤ 9 → name_fits g s ≡ false
   unfolding name_fits
-  name_cut g e = rw (past_end s 9 (omega arith))
+  name_cut g e = rw (past_end s 9 e)
 
-  pub size-nothing : length s ≡ 0 → 0 ≡ token_size s
-  unfolding size_of first_token span_fits
-  size-nothing e = rw (past_end s 0 (omega arith), e)
+  pub nothing-read : length s ≡ 0 → false ≡ is_read (first_token s)
+  unfolding is_read first_token span_fits
+  nothing-read e = rw (past_end s 0 (omega arith), e)
 
-  pub size-closing : get_or s 0 0 ≡ 15 → 1 ≡ token_size s
-  unfolding size_of first_token
-  size-closing e = rw e
+  pub closing-read : get_or s 0 0 ≡ 15 → true ≡ is_read (first_token s)
+  unfolding is_read first_token
+  closing-read e = rw e
 
-  pub size-no_span : (get_or s 0 0 ≡ 15 → ⊥) → span_fits s ≡ false → 0 ≡ token_size s
-  unfolding size_of first_token
-  size-no_span h e = rw (ne_eqb (get_or s 0 0) 15 h, e)
+  pub no_span-read : (get_or s 0 0 ≡ 15 → ⊥) → span_fits s ≡ false → false ≡ is_read (first_token s)
+  unfolding is_read first_token
+  no_span-read h e = rw (ne_eqb (get_or s 0 0) 15 h, e)
 
-  pub size-opening : get_or s 0 0 ≡ 7 → span_fits s ≡ true → 9 ≡ token_size s
-  unfolding size_of first_token
-  size-opening e f = rw (e, f)
+  module _ (span : span_fits s ≡ true) where
+    pub opening-read : get_or s 0 0 ≡ 7 → true ≡ is_read (first_token s)
+    unfolding is_read first_token
+    opening-read e = rw (e, span)
 
-  size_if : (t : Bool) (k : Token) (n : ℕ) → pick t n 0 ≡ size_of (cond t (some (record { token = k; size = n })) none)
-  unfolding size_of
-  size_if true k n = refl
-  size_if false k n = refl
+    pub code-read : get_or s 0 0 ≡ 1 → code_fits s ≡ is_read (first_token s)
+    unfolding first_token
+    code-read e = rw (e, span) (sym (read_if (code_fits s) _))
 
-  pub size-code : get_or s 0 0 ≡ 1 → span_fits s ≡ true → pick (code_fits s) 13 0 ≡ token_size s
-  unfolding first_token
-  size-code e f = rw (e, f) (size_if (code_fits s) _ 13)
+    identifier-read : get_or s 0 0 ≡ 2 → name_fits (eqb (get_or s 0 0) 3) s ≡ is_read (first_token s)
+    unfolding first_token
+    identifier-read e = rw (e, span) (sym (read_if (name_fits false s) _))
 
-  pub size-identifier : get_or s 0 0 ≡ 2 → span_fits s ≡ true → pick (name_fits false s) (10 + get_or s 9 0) 0 ≡ token_size s
-  unfolding first_token
-  size-identifier e f = rw (e, f) (size_if (name_fits false s) _ (10 + get_or s 9 0))
+    number-read : get_or s 0 0 ≡ 3 → name_fits (eqb (get_or s 0 0) 3) s ≡ is_read (first_token s)
+    unfolding first_token
+    number-read e = rw (e, span) (sym (read_if (name_fits true s) _))
 
-  pub size_number : get_or s 0 0 ≡ 3 → span_fits s ≡ true → pick (name_fits true s) (10 + get_or s 9 0) 0 ≡ token_size s
-  unfolding first_token
-  size_number e f = rw (e, f) (size_if (name_fits true s) _ (10 + get_or s 9 0))
+    pub name-read : 2 ≤ get_or s 0 0 → get_or s 0 0 ≤ 3 → name_fits (eqb (get_or s 0 0) 3) s ≡ is_read (first_token s)
+    name-read h k = by (eqb (get_or s 0 0) 3) refl
+      where
+        by : (t : Bool) → eqb (get_or s 0 0) 3 ≡ t → name_fits (eqb (get_or s 0 0) 3) s ≡ is_read (first_token s)
+        by true e = number-read (eqb-true (get_or s 0 0) 3 e)
+        by false e = identifier-read (let n = eqb-false (get_or s 0 0) 3 e in by_two h k n)
+          where
+            by_two : 2 ≤ get_or s 0 0 → get_or s 0 0 ≤ 3 → (get_or s 0 0 ≡ 3 → ⊥) → get_or s 0 0 ≡ 2
+            by_two h k n = omega (arith, n)
 
-  pub size-other : (get_or s 0 0 ≡ 15 → ⊥) → (get_or s 0 0 ≡ 7 → ⊥) → (get_or s 0 0 ≡ 1 → ⊥) → (get_or s 0 0 ≡ 2 → ⊥) → (get_or s 0 0 ≡ 3 → ⊥) → span_fits s ≡ true → 0 ≡ token_size s
-  unfolding size_of first_token
-  size-other a b c d e f = rw (ne_eqb (get_or s 0 0) 15 a, f, ne_eqb (get_or s 0 0) 7 b, ne_eqb (get_or s 0 0) 1 c, ne_eqb (get_or s 0 0) 2 d, ne_eqb (get_or s 0 0) 3 e)
+    pub other-read : (get_or s 0 0 ≡ 15 → ⊥) → (get_or s 0 0 ≡ 7 → ⊥) → (get_or s 0 0 ≡ 1 → ⊥) → (get_or s 0 0 ≡ 2 → ⊥) → (get_or s 0 0 ≡ 3 → ⊥) → false ≡ is_read (first_token s)
+    unfolding is_read first_token
+    other-read a b c d e = rw (ne_eqb (get_or s 0 0) 15 a, span, ne_eqb (get_or s 0 0) 7 b, ne_eqb (get_or s 0 0) 1 c, ne_eqb (get_or s 0 0) 2 d, ne_eqb (get_or s 0 0) 3 e)
 
-  -- ---- what a size says
+  -- ---- the token by its test
 
-  pub size_none : token_size s ≡ 0 → first_token s ≡ none
-  unfolding size_of
-  size_none e = by (first_token s) (first-sized s) e
+  pub token-read : true ≡ is_read (first_token s) → TokenAt s
+  unfolding is_read
+  token-read e = by (first_token s) refl e
     where
-      by : (o : Option Reading) → Sized s o → size_of o ≡ 0 → o ≡ none
-      by none h k = refl
-      by (some r) h k = absurd (omega (arith, h.0, k))
+      by : (o : Option Reading) → first_token s ≡ o → true ≡ is_read o → TokenAt s
+      by none f h = absurd (true≢false h)
+      by (some r) f h = record { reading = r; is = f }
 
-  pub size-some : (token_size s ≡ 0 → ⊥) → (r : Reading) × (first_token s ≡ some r) × (r.size ≡ token_size s)
-  unfolding size_of
-  size-some h = by (first_token s) refl
+  pub token-told : TokenAt s → true ≡ is_read (first_token s)
+  unfolding is_read
+  token-told t = sym (ap is_read t.is)
+
+  pub none_read : false ≡ is_read (first_token s) → first_token s ≡ none
+  unfolding is_read
+  none_read e = by (first_token s) e
     where
-      by : (o : Option Reading) → first_token s ≡ o → (r : Reading) × (first_token s ≡ some r) × (r.size ≡ token_size s)
-      by none e = absurd (h (ap size_of e))
-      by (some r) e = (r, e, sym (ap size_of e))
+      by : (o : Option Reading) → false ≡ is_read o → o ≡ none
+      by none h = refl
+      by (some r) h = absurd (true≢false (sym h))
+
+-- A token that was read where x stands, and its size.
+unfoldable pub read-at : {x y : List ℕ} → y ≡ x → true ≡ is_read (first_token y) → TokenAt x
+read-at {x} e h = token-read x (subst (λ (z : List ℕ). true ≡ is_read (first_token z)) e h)
+
+pub size-at : {x y : List ℕ} (e : y ≡ x) (h : true ≡ is_read (first_token y)) {n : ℕ} → ((t : TokenAt y) → n ≡ t.reading.size) → n ≡ (read-at e h).reading.size
+size-at e h {n} f = subst (λ (z : List ℕ). (t : TokenAt z) → n ≡ t.reading.size) e f (read-at e h)

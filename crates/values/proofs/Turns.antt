@@ -2,21 +2,21 @@
 use Prim.Native.Nat.{ℕ, zero, suc, ◌+◌, ◌-◌, ◌<◌, ◌≤◌, max}
 use native.Mathlib.Omega.{arith}
 use mathlib.Core.Path.{◌≡◌, refl, sym, ap, subst, ◌∙◌}
-use mathlib.Core.Bool.{Bool, true, false, true≢false, ◌&&◌}
+use mathlib.Core.Bool.{Bool, true, false}
 use mathlib.Core.List.{List, [], ◌∷◌}
 use mathlib.Core.Option.{Option, none, some}
 use lib.Dec.{eqb, leb-zero, eqb-zero-suc, eqb-suc-zero, eqb-suc-suc}
 use lib.ListN.{length, get_or, take, drop, length-drop}
 use lib.Seq.{drop-drop}
-use borrow.Author.Tests.{eq-eqb, ne_eqb, eqb-true, eqb-false}
+use borrow.Author.Tests.{ne_eqb, eqb-true, eqb-false}
 use Rattle.program.specs.Limits.{pick}
 use Rattle.patterns.specs.Expression.{Expression, void}
 use Rattle.symbols.proofs.Parts.{part_rest}
-use Rattle.meaning.specs.Inputs.{Token, Reading, first_token, tokens, if_read, expressions, single, input_of, answers_of}
+use Rattle.meaning.specs.Inputs.{Token, first_token, tokens, if_read, expressions, single, input_of, answers_of}
 use Rattle.meaning.proofs.Tokens.{Sized, first-sized, tokens-end, tokens_none, tokens-next, KindOf, token-kind, balanced, counts, balanced_counts, owing, answered, reaches, answered_reaches}
 use Rattle.values.specs.Counting.{depth_after, owed_after}
-use Rattle.values.specs.Values.{is_read, token_size}
-use Rattle.values.proofs.Sizes.{size_none, size-some}
+use Rattle.std.specs.Prelude.{Option as Found, Some, None, SomeIff, MatchOption}
+use Rattle.values.specs.Values.{is_read, TokenAt}
 
 -- ---- what a mark changes
 
@@ -28,6 +28,10 @@ module _ (m d : ℕ) where
   pub depth_closing : m ≡ 15 → d - 1 ≡ depth_after m d
   unfolding depth_after
   depth_closing e = rw e
+
+  pub depth_closed : m ≡ 15 → (o : Found ℕ) → SomeIff o (1 ≤ d) (d - 1) → MatchOption o ((m ≡ 15) × (d ≡ 0)) (λ e. (e ≡ depth_after m d) × (m ≡ 15 → 0 < d))
+  depth_closed e None h = (e, omega arith)
+  depth_closed e (Some k) h = (h.1 ∙ depth_closing e, λ z. omega arith)
 
   pub depth_other : (m ≡ 7 → ⊥) → (m ≡ 15 → ⊥) → d ≡ depth_after m d
   unfolding depth_after
@@ -63,24 +67,16 @@ module _ (m d : ℕ) where
       by false true f g q = (λ z. omega arith, omega arith)
       by false false f g q = (λ z. absurd (eqb-false m 15 g z), omega arith)
 
-  -- A close that no bracket opened.
-  pub last-yes : {t : Bool} → t ≡ (eqb m 15 && eqb d 0) → t ≡ true → (m ≡ 15) × (d ≡ 0)
-  last-yes q e = by (eqb m 15) refl (sym q ∙ e)
-    where
-      by : (u : Bool) → eqb m 15 ≡ u → (u && eqb d 0) ≡ true → (m ≡ 15) × (d ≡ 0)
-      by true h k = (eqb-true m 15 h, eqb-true d 0 k)
-      by false h k = absurd (true≢false (sym k))
+-- ---- the bytes from a place on, as the code has them
 
-  pub last-no : {t : Bool} → t ≡ (eqb m 15 && eqb d 0) → t ≡ false → m ≡ 15 → 0 < d
-  last-no q e h = by (eqb d 0) refl (sym (rw (eq-eqb m 15 h) at q) ∙ e)
-    where
-      by : (u : Bool) → eqb d 0 ≡ u → u ≡ false → 0 < d
-      by true h k = absurd (true≢false k)
-      by false h k = let z = eqb-false d 0 h in by_zero d z
-        where
-          by_zero : (n : ℕ) → (n ≡ 0 → ⊥) → 0 < n
-          by_zero zero f = absurd (f refl)
-          by_zero (suc n) f = omega arith
+abbrev pub part : List ℕ → ℕ → List ℕ
+part s at = take (length s - at) (drop at s)
+
+pub part_there : (s : List ℕ) (at : ℕ) → at < length s → 0 < length (part s at)
+part_there s at h = rw (part_rest s at) (simp length-drop (omega arith))
+
+pub part_length : (s : List ℕ) (at : ℕ) → length (part s at) ≡ length s - at
+part_length s at = ap length (part_rest s at) ∙ length-drop at s
 
 -- ---- the rest answers as the whole
 
@@ -107,43 +103,34 @@ told-next (some l) t f = refl
 pub record Left (b : Bool) (f : List Token → ℕ → Bool) (s : List ℕ) (at d : ℕ) : Type 0 where
   pub is : b ≡ told (tokens (drop at s)) (λ l. f l d)
 
-module _ (b : Bool) (f : List Token → ℕ → Bool) (s : List ℕ) (at d : ℕ) (left : Left b f s at d) where
+module _ {b : Bool} {f : List Token → ℕ → Bool} {s : List ℕ} {at d : ℕ} (left : Left b f s at d) where
   pub left_end : length s ≤ at → f [] d ≡ b
   unfolding told
   left_end h = sym (left.is ∙ ap (λ (o : Option (List Token)). told o (λ l. f l d)) (tokens-end (drop at s) (simp length-drop (omega arith))))
 
-  module _ (x : List ℕ) (q : x ≡ drop at s) (n : ℕ) (size : n ≡ token_size x) where
-    pub left-none : at < length s → n ≡ 0 → false ≡ b
-    unfolding told
-    left-none h e = sym (left.is ∙ ap (λ (o : Option (List Token)). told o (λ l. f l d)) (tokens_none (drop at s) (simp length-drop (omega arith)) (ap first_token (sym q) ∙ size_none x (sym size ∙ e))))
+  pub left-none : at < length s → first_token (part s at) ≡ none → false ≡ b
+  unfolding told
+  left-none h e = sym (left.is ∙ ap (λ (o : Option (List Token)). told o (λ l. f l d)) (tokens_none (drop at s) (simp length-drop (omega arith)) (ap first_token (sym (part_rest s at)) ∙ e)))
 
-    module _ (some-token : n ≡ 0 → ⊥) where
-      first : (r : Reading) × (first_token x ≡ some r) × (r.size ≡ token_size x)
-      first = size-some x (λ e. some-token (size ∙ e))
+  module _ (t : TokenAt (part s at)) {n : ℕ} (size : n ≡ t.reading.size) where
+    onward : b ≡ told (tokens (drop (at + n) s)) (λ l. f (t.reading.token ∷ l) d)
+    onward =
+        left.is
+        ∙ (ap (λ (o : Option (List Token)). told o (λ l. f l d)) (tokens-next (drop at s) t.reading (ap first_token (sym (part_rest s at)) ∙ t.is))
+        ∙ (told-next (tokens (drop t.reading.size (drop at s))) t.reading.token (λ l. f l d)
+        ∙ ap (λ (k : List ℕ). told (tokens k) (λ l. f (t.reading.token ∷ l) d)) (drop-drop t.reading.size at s ∙ ap (λ (i : ℕ). drop (at + i) s) (sym size))))
 
-      onward : b ≡ told (tokens (drop (at + n) s)) (λ l. f (first.0.token ∷ l) d)
-      onward =
-          left.is
-          ∙ (ap (λ (o : Option (List Token)). told o (λ l. f l d)) (tokens-next (drop at s) first.0 (ap first_token (sym q) ∙ first.1))
-          ∙ (told-next (tokens (drop first.0.size (drop at s))) first.0.token (λ l. f l d)
-          ∙ ap (λ (k : List ℕ). told (tokens k) (λ l. f (first.0.token ∷ l) d)) (drop-drop first.0.size at s ∙ ap (λ (i : ℕ). drop (at + i) s) (first.2 ∙ sym size))))
+    pub left-next : (e : ℕ) → ((u : Token) → KindOf (get_or (part s at) 0 0) u → (l : List Token) → f (u ∷ l) d ≡ f l e) → Left b f s (at + n) e
+    left-next e h = record { is = onward ∙ told-alike (tokens (drop (at + n) s)) _ _ (h t.reading.token (token-kind (part s at) t.reading t.is)) }
 
-      pub left-next : (e : ℕ) → ((t : Token) → KindOf (get_or x 0 0) t → (l : List Token) → f (t ∷ l) d ≡ f l e) → Left b f s (at + n) e
-      left-next e h = record { is = onward ∙ told-alike (tokens (drop (at + n) s)) _ _ (h first.0.token (token-kind x first.0 first.1)) }
+  pub left_false : (t : TokenAt (part s at)) → ((u : Token) → KindOf (get_or (part s at) 0 0) u → (l : List Token) → f (u ∷ l) d ≡ false) → false ≡ b
+  left_false t h = sym (onward t refl ∙ told_false (tokens (drop (at + t.reading.size) s)) _ (h t.reading.token (token-kind (part s at) t.reading t.is)))
 
-      pub left_false : ((t : Token) → KindOf (get_or x 0 0) t → (l : List Token) → f (t ∷ l) d ≡ false) → false ≡ b
-      left_false h = sym (onward ∙ told_false (tokens (drop (at + n) s)) _ (h first.0.token (token-kind x first.0 first.1)))
-
-pub size-within : (s : List ℕ) (at n : ℕ) → n ≡ token_size (drop at s) → n ≤ length s - at
-size-within s at n e = by (eqb n 0) refl
-  where
-    by : (t : Bool) → eqb n 0 ≡ t → n ≤ length s - at
-    by true h = let z = eqb-true n 0 h in omega arith
-    by false h =
-        let r = size-some (drop at s) (λ z. eqb-false n 0 h (e ∙ z)) in
-        let k = subst (Sized (drop at s)) r.1 (first-sized (drop at s)) in
-        let l = simp length-drop at k.1 in
-        omega (arith, l, r.2, e)
+pub size-within : (s : List ℕ) (at : ℕ) (t : TokenAt (part s at)) {n : ℕ} → n ≡ t.reading.size → (1 ≤ n) × (n ≤ length s - at)
+size-within s at t {n} e =
+    let k = subst (Sized (part s at)) t.is (first-sized (part s at)) in
+    let l = part_length s at in
+    (omega (arith, e, k.0), omega (arith, l, e, k.1))
 
 -- ---- an input
 
@@ -198,10 +185,3 @@ unfolding answered owing
 answered_next (Token.symbol x) l m d e k q = ap (answered l) (owed-other m d (max 1 d) refl k.1 k.0 ∙ sym q)
 answered_next Token.opening l m d e k q = ap (answered l) (let z = owed-opening m d (max 1 d) refl k in omega (arith, z, q))
 answered_next Token.closing l m d e k q = ap (answered l) (let z = owed-closing m d (max 1 d) refl k in omega (arith, z, q))
-
--- A part that begins within s has a byte.
-pub part_there : (s : List ℕ) (at : ℕ) → at < length s → 0 < length (take (length s - at) (drop at s))
-part_there s at h = rw (part_rest s at) (simp length-drop (omega arith))
-
-pub part_length : (s : List ℕ) (at : ℕ) → length (take (length s - at) (drop at s)) ≡ length s - at
-part_length s at = ap length (part_rest s at) ∙ length-drop at s

@@ -1,25 +1,16 @@
 -- Expressions in marks: what stands at the start of some bytes, with whatever spans.
-use Rattle.std.specs.Prelude.{ℕ, ◌+◌, ◌≤◌, ◌≡◌, Bool, true, false, List, length, drop}
+use Rattle.std.specs.Prelude.{ℕ, ◌+◌, ◌≤◌, ◌≡◌, Bool, true, false, List, length, drop, Option as Found, Some, None}
 use Rattle.std.proofs.Math.Option.{Option, none, some}
 use Rattle.patterns.specs.Expression.{Expression, void, atom, group}
 use Rattle.meaning.specs.Records.{bytes_of}
 use Rattle.meaning.specs.Inputs.{Token, Reading, first_token, tokens, input_of}
 use Rattle.meaning.proofs.Inputs.{tokens_of}
 use Rattle.meaning.proofs.Tokens.{Closed}
-use Rattle.values.specs.declared.levels.Front.{Front}
 
 -- Whether there is something.
 unfoldable pub is_read : {A : Type 0} → Option A → Bool
 is_read none = false
 is_read (some a) = true
-
-unfoldable pub size_of : Option Reading → ℕ
-size_of none = 0
-size_of (some r) = r.size
-
--- How many bytes the first token has, 0 where there is none.
-abbrev pub token_size : List ℕ → ℕ
-token_size s = size_of (first_token s)
 
 pub record TokenAt (s : List ℕ) : Type 0 where
   pub reading : Reading
@@ -49,9 +40,9 @@ rest_of void = void
 rest_of (atom x v) = v
 rest_of (group u v) = v
 
--- A place in an expression's bytes: what is left from there on.
-abbrev pub FrontOf : Expression → Option Expression → Front → Type 0
-FrontOf v none Front.Nowhere = Unit {0}
-FrontOf v none (Front.Until j) = ⊥
-FrontOf v (some w) Front.Nowhere = ⊥
-FrontOf v (some w) (Front.Until j) = j + bytes_of w ≡ bytes_of v
+-- A place in an expression's bytes: what is left from there on, if the other expression's terms come first.
+abbrev pub FrontOf : Expression → Option Expression → Found ℕ → Type 0
+FrontOf v none None = Unit {0}
+FrontOf v none (Some j) = ⊥
+FrontOf v (some w) None = ⊥
+FrontOf v (some w) (Some j) = j + bytes_of w ≡ bytes_of v

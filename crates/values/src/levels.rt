@@ -1,4 +1,5 @@
 // Expressions at the start of a slice, up to its end or to a close that none of their brackets opened.
+// The walks go from token to token, each as long as its bytes say, which no chain of the library's is plainer for.
 ghost use Rattle.std.specs.Prelude.{◌≡◌, [], ◌+◌, ◌≤◌, length};
 ghost use Rattle.patterns.specs.Expression.{void};
 ghost use Rattle.patterns.specs.Marks.{put_expression};
@@ -8,8 +9,8 @@ ghost use Rattle.meaning.proofs.Fronts.{rest_after};
 ghost use Rattle.text.specs.Fill.{Emitted, limit};
 ghost use Rattle.values.specs.Values.{ValueAt, LevelAt, Ends, rest_of, FrontOf};
 
-use crate::read::{depth_after, is_last_close};
-use crate::tokens::{put_token, same_token, token_len};
+use crate::read::depth_after;
+use crate::tokens::Token;
 
 // How many bytes the expression has, with zero spans or any others.
 pub fn value_len(s: &[u8]) -> usize
@@ -20,16 +21,16 @@ pub fn value_len(s: &[u8]) -> usize
     let mut depth: usize = 0;
     while at < s.len() {
         let x = &s[at..];
-        if is_last_close(x[0], depth) {
+        let Some(after) = depth_after(x[0], depth) else {
             return at;
-        }
-        depth = depth_after(x[0], depth);
-        at += token_len(x);
+        };
+        depth = after;
+        at += Token { bytes: x }.size();
     }
     at
 }
 
-// The expression with zero spans.
+// The expression with zero spans. It walks as `value_len` does: one walk for both would be no plainer, since only this one lends the bytes that it writes.
 pub fn put_value(out: &mut [u8], at: usize, s: &[u8]) -> usize
     requires { LevelAt s.now × (at + length s.now ≤ limit) }
     ensures { (v : LevelAt s.now) → Emitted out.old at (put_expression v.level []) result out.new }
@@ -38,12 +39,13 @@ pub fn put_value(out: &mut [u8], at: usize, s: &[u8]) -> usize
     let mut depth: usize = 0;
     while i < s.len() {
         let x = &s[i..];
-        if is_last_close(x[0], depth) {
+        let Some(after) = depth_after(x[0], depth) else {
             return at + i;
-        }
-        depth = depth_after(x[0], depth);
-        put_token(out, at + i, x);
-        i += token_len(x);
+        };
+        depth = after;
+        let t = Token { bytes: x };
+        t.put(out, at + i);
+        i += t.size();
     }
     at + i
 }
@@ -56,18 +58,11 @@ pub fn term_end(s: &[u8]) -> usize
     if s[0] == 7 {
         return 10 + value_len(&s[9..]);
     }
-    token_len(s)
-}
-
-// How far an expression's terms equal those of another.
-#[derive(Clone, Copy)]
-pub enum Front {
-    Until(usize),
-    Nowhere,
+    Token { bytes: s }.size()
 }
 
 // Where the terms of b that equal the whole of a end, if b begins with such.
-pub fn same_front(a: &[u8], b: &[u8]) -> Front
+pub fn same_front(a: &[u8], b: &[u8]) -> Option<usize>
     requires { ValueAt a.now × LevelAt b.now }
     ensures { (u : ValueAt a.now) (v : LevelAt b.now) → FrontOf v.level (rest_after u.expression v.level) result }
 {
@@ -75,17 +70,17 @@ pub fn same_front(a: &[u8], b: &[u8]) -> Front
     let mut j: usize = 0;
     while i < a.len() {
         if b.len() <= j {
-            return Front::Nowhere;
+            return None;
         }
-        let x = &a[i..];
-        let y = &b[j..];
-        if !same_token(x, y) {
-            return Front::Nowhere;
+        let x = Token { bytes: &a[i..] };
+        let y = Token { bytes: &b[j..] };
+        if !x.same(y) {
+            return None;
         }
-        i += token_len(x);
-        j += token_len(y);
+        i += x.size();
+        j += y.size();
     }
-    Front::Until(j)
+    Some(j)
 }
 
 // Whether two expressions are the same.
@@ -93,9 +88,5 @@ pub fn same_values(a: &[u8], b: &[u8]) -> bool
     requires { ValueAt a.now × ValueAt b.now }
     ensures { (u : ValueAt a.now) (v : ValueAt b.now) → result ≡ same_expression u.expression v.expression }
 {
-    let f = same_front(a, b);
-    match f {
-        Front::Until(j) => j == b.len(),
-        Front::Nowhere => false,
-    }
+    same_front(a, b) == Some(b.len())
 }

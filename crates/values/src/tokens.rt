@@ -1,110 +1,120 @@
 // Tokens: a symbol, the opening of a bracket, a close.
-ghost use Rattle.std.specs.Prelude.{◌≡◌, Bool, [], ◌+◌, ◌≤◌, length, get_or};
-ghost use Rattle.program.specs.Limits.{pick};
+ghost use Rattle.std.specs.Prelude.{◌≡◌, Bool, true, [], ◌+◌, ◌≤◌, eqb, length, get_or, MatchOption};
+ghost use Rattle.std.proofs.Math.Option.{none};
 ghost use Rattle.patterns.specs.Marks.{zero_span};
-ghost use Rattle.meaning.specs.Inputs.{code_fits, name_fits};
+ghost use Rattle.meaning.specs.Inputs.{span_fits, code_fits, name_fits, first_token};
 ghost use Rattle.meaning.proofs.Tokens.{put_token};
 ghost use Rattle.meaning.proofs.Fronts.{same_token};
 ghost use Rattle.text.specs.Fill.{Emitted, limit};
-ghost use Rattle.values.specs.Values.{token_size, TokenAt};
+ghost use Rattle.values.specs.Values.{is_read, TokenAt};
 
-use reader::rules::{code_refusal, name_refusal, span_refusal, wide};
+use image::part::token_len;
+use reader::rules::{code_refusal, name_refusal, span_refusal};
 use symbols::same_symbol;
 use text::emit::{put_byte, put_bytes};
 
-// How many bytes a character has, 0 if its code is none.
-fn code_size(s: &[u8]) -> usize
+// Whether a span stands behind the mark.
+fn span_fits(s: &[u8]) -> bool
+    requires { 1 ≤ length s.now }
+    ensures { result ≡ span_fits s.now }
+{
+    span_refusal(s, 1).is_ok()
+}
+
+// Whether a character's code stands behind the span.
+fn code_fits(s: &[u8]) -> bool
     requires { 9 ≤ length s.now }
-    ensures { result ≡ pick (code_fits s.now) 13 0 }
+    ensures { result ≡ code_fits s.now }
 {
-    let f = code_refusal(s, 9);
-    if f.number == 0 { 13 } else { 0 }
+    code_refusal(s, 9).is_ok()
 }
 
-// How many bytes an identifier or a number has, 0 if its name is none.
-fn name_size(s: &[u8], digits: bool) -> usize
+// Whether a name stands behind the span: behind a number's mark it has digits only.
+fn name_fits(s: &[u8]) -> bool
     requires { 9 ≤ length s.now }
-    ensures { result ≡ pick (name_fits digits s.now) (10 + get_or s.now 9 0) 0 }
+    ensures { result ≡ name_fits (eqb (get_or s.now 0 0) 3) s.now }
 {
-    if s.len() == 9 {
-        return 0;
-    }
-    let f = name_refusal(s, 9, digits);
-    if f.number == 0 { 10 + wide(s[9]) } else { 0 }
+    9 < s.len() && name_refusal(s, 9, s[0] == 3).is_ok()
 }
 
-// How many bytes the first token has, 0 where there is none.
-pub fn token_size(s: &[u8]) -> usize
-    ensures { result ≡ token_size s.now }
+// Whether there is a token.
+fn is_token(s: &[u8]) -> bool
+    ensures { result ≡ is_read (first_token s.now) }
 {
-    if s.len() == 0 {
-        return 0;
-    }
-    let m = s[0];
-    if m == 15 {
-        return 1;
-    }
-    let f = span_refusal(s, 1);
-    if f.number != 0 {
-        return 0;
-    }
-    match m {
-        1 => code_size(s),
-        2 => name_size(s, false),
-        3 => name_size(s, true),
-        7 => 9,
-        _ => 0,
-    }
-}
-
-// The same of a token that is known to be there: nothing is checked again.
-pub fn token_len(s: &[u8]) -> usize
-    requires { TokenAt s.now }
-    ensures { (t : TokenAt s.now) → result ≡ t.reading.size }
-{
-    let m = s[0];
-    if m == 15 {
-        return 1;
-    }
-    if m == 7 {
-        return 9;
-    }
-    if m == 1 {
-        return 13;
-    }
-    10 + wide(s[9])
-}
-
-// The first token with a zero span.
-pub fn put_token(out: &mut [u8], at: usize, s: &[u8]) -> usize
-    requires { TokenAt s.now × (at + length s.now ≤ limit) }
-    ensures { (t : TokenAt s.now) → Emitted out.old at (put_token zero_span t.reading.token []) result out.new }
-{
-    let m = s[0];
-    let span = put_byte(out, at, m);
-    if m == 15 {
-        return span;
-    }
-    let zeros = [0u8; 8];
-    let fields = put_bytes(out, span, &zeros);
-    let end = token_len(s);
-    put_bytes(out, fields, &s[9..end])
-}
-
-// Whether two tokens are the same: symbols by their rule, whatever their spans.
-pub fn same_token(a: &[u8], b: &[u8]) -> bool
-    requires { TokenAt a.now × TokenAt b.now }
-    ensures { (x : TokenAt a.now) (y : TokenAt b.now) → result ≡ same_token x.reading.token y.reading.token }
-{
-    let m = a[0];
-    if m != b[0] {
+    if s.is_empty() {
         return false;
     }
-    if m == 7 {
-        return true;
-    }
+    let m = s[0];
     if m == 15 {
         return true;
     }
-    same_symbol(a, b)
+    if !span_fits(s) {
+        return false;
+    }
+    match m {
+        1 => code_fits(s),
+        2 | 3 => name_fits(s),
+        7 => true,
+        _ => false,
+    }
+}
+
+// Bytes that begin with a token.
+#[derive(Clone, Copy)]
+pub struct Token<'a> {
+    pub bytes: &'a [u8],
+    ghost there: { true ≡ is_read (first_token bytes.now) },
+}
+
+impl<'a> Token<'a> {
+    // The first token, if there is one.
+    pub fn first(s: &'a [u8]) -> Option<Token<'a>>
+        ensures { MatchOption result (first_token s.now ≡ none) (λ t. t.bytes.now ≡ s.now) }
+    {
+        if is_token(s) {
+            Some(Token { bytes: s })
+        } else {
+            None
+        }
+    }
+
+    // How many bytes it has: nothing is checked again.
+    pub fn size(self) -> usize
+        ensures { (t : TokenAt self.entry.bytes.now) → result ≡ t.reading.size }
+    {
+        token_len(self.bytes)
+    }
+
+    // It is written with a zero span.
+    pub fn put(self, out: &mut [u8], at: usize) -> usize
+        requires { at + length self.bytes.now ≤ limit }
+        ensures { (t : TokenAt self.entry.bytes.now) → Emitted out.old at (put_token zero_span t.reading.token []) result out.new }
+    {
+        let s = self.bytes;
+        let m = s[0];
+        let span = put_byte(out, at, m);
+        if m == 15 {
+            return span;
+        }
+        let zeros = [0u8; 8];
+        let fields = put_bytes(out, span, &zeros);
+        let end = self.size();
+        put_bytes(out, fields, &s[9..end])
+    }
+
+    // Whether another is the same: symbols by their rule, whatever their spans.
+    pub fn same(self, other: Token) -> bool
+        ensures { (x : TokenAt self.entry.bytes.now) (y : TokenAt other.entry.bytes.now) → result ≡ same_token x.reading.token y.reading.token }
+    {
+        let a = self.bytes;
+        let b = other.bytes;
+        let m = a[0];
+        if m != b[0] {
+            return false;
+        }
+        match m {
+            7 | 15 => true,
+            _ => same_symbol(a, b),
+        }
+    }
 }

@@ -1,6 +1,10 @@
--- `matching::bindings::put_number` meets its contract. Assumes nothing.
-use Rattle.matching.proofs.Held.{number-emitted}
+-- `matching::bindings::put_number` meets its contract: the two low bytes are the number. Assumes nothing.
+use mathlib.Core.Path.{ap}
+use lib.ListN.{take}
+use Rattle.program.specs.Bytes.{put16}
+use Rattle.text.proofs.Fill.{emitted-same}
 use Rattle.matching.proofs.bindings.put_number.Goals as goal
 
 pub returns : goal.returns
-returns c = number-emitted c.args.n c.low_byte.ensures c.low_byte-2.ensures c.put_byte-next.ensures c.put_byte.ensures
+unfolding put16
+returns c = emitted-same (ap (take 2) c.to_le_bytes.ensures) c.put_bytes.ensures

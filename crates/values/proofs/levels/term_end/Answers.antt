@@ -1,6 +1,7 @@
 -- `values::levels::term_end` meets its contract. Assumes nothing.
 use native.Mathlib.Omega.{arith}
 use Rattle.symbols.proofs.Parts.{part_rest}
+use Rattle.values.proofs.Sizes.{token-told}
 use Rattle.values.proofs.Expressions.{term_there, term_no_close, inside_at, bracket-room, bracket-short, bracket-length, symbol-length, token-first}
 use Rattle.values.proofs.levels.term_end.Goals as goal
 
@@ -32,12 +33,12 @@ returns-then-s-eq7 c = λ v.
     let e = (rw part_rest at c.value_len.ensures) (inside_at v h f) in
     bracket-length v h f c.value_len.result e.bytes
 
-pub token_len-requires : goal.token_len-requires
-token_len-requires c = let v = c.requires in token-first v.0 (term_there v.0 v.1)
+pub invariant_of-size : goal.invariant_of-size
+invariant_of-size c = let v = c.requires in record { there = token-told c.args.s.now (token-first v.0 (term_there v.0 v.1)) }
 
 pub returns : goal.returns
 returns c = λ v.
     let w = c.requires in
     let h = term_there w.0 w.1 in
     let t = token-first v h in
-    symbol-length v h c.if-s-eq7.false (term_no_close w.0 w.1) t c.token_len.result (c.token_len.ensures t)
+    symbol-length v h c.if-s-eq7.false (term_no_close w.0 w.1) t c.size.result (c.size.ensures t)

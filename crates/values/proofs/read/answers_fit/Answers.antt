@@ -1,47 +1,37 @@
-use Prim.Native.Nat.{◌-◌}
 use native.Mathlib.Omega.{arith}
-use lib.ListN.{length, get_or, take, drop}
-use Rattle.symbols.proofs.Parts.{part_rest}
+use lib.ListN.{get_or}
 use Rattle.meaning.proofs.Tokens.{answered}
-use Rattle.values.proofs.Turns.{answers-start, left_end, left-none, left-next, size-within, part_there, answered_next}
+use Rattle.values.proofs.Sizes.{read-at, size-at}
+use Rattle.values.proofs.Turns.{part, answers-start, left_end, left-none, left-next, size-within, answered_next}
 use Rattle.values.proofs.Bytes.{owed-room}
 use Rattle.values.proofs.read.answers_fit.Goals as goal
 
 pub loop-at-init : goal.loop-at-init
 loop-at-init c = (omega arith, omega arith, answers-start c.args.s.now)
 
-pub returns-then-n-eq0 : goal.returns-then-n-eq0
-returns-then-n-eq0 c =
-    let s = c.args.s.now in
-    let l = c.loop-at in
-    left-none _ answered s l.at l.owed l.invariant.2 (take (length s - l.at) (drop l.at s)) (part_rest s l.at) c.token_size-n.result c.token_size-n.ensures c.loop-at-test.true c.if-n-eq0.true
-
-pub bounds-x-0 : goal.bounds-x-0
-bounds-x-0 c = omega (arith, part_there c.args.s.now c.loop-at.at c.loop-at-test.true)
-
-pub owed_after-owed-requires : goal.owed_after-owed-requires
-owed_after-owed-requires c = omega arith
+pub returns-in_default : goal.returns-in_default
+returns-in_default c = left-none c.loop-at.invariant.2 c.loop-at-test.true c.in_default.ensures
 
 pub overflow_add-at : goal.overflow_add-at
-overflow_add-at c = let s = c.args.s.now in omega (arith, size-within s c.loop-at.at c.token_size-n.result (rw part_rest at c.token_size-n.ensures))
+overflow_add-at c = omega (arith, (size-within c.args.s.now c.loop-at.at (read-at c.in-Some.ensures c.in-Some.t.there) (size-at c.in-Some.ensures c.in-Some.t.there c.size-at.ensures)).1)
 
 pub loop-at-smaller : goal.loop-at-smaller
-loop-at-smaller c = let s = c.args.s.now in omega (arith, size-within s c.loop-at.at c.token_size-n.result (rw part_rest at c.token_size-n.ensures), c.if-n-eq0.false)
+loop-at-smaller c =
+    let w = size-within c.args.s.now c.loop-at.at (read-at c.in-Some.ensures c.in-Some.t.there) (size-at c.in-Some.ensures c.in-Some.t.there c.size-at.ensures) in
+    omega (arith, w.0, w.1)
 
 pub loop-at-preserved : goal.loop-at-preserved
 loop-at-preserved c =
-    let s = c.args.s.now in
     let l = c.loop-at in
-    let x = take (length s - l.at) (drop l.at s) in
-    let m = get_or x 0 0 in
-    let n = c.token_size-n.result in
-    let w = size-within s l.at n (rw part_rest at c.token_size-n.ensures) in (
-      omega (arith, w),
-      owed-room x n l.owed c.owed_after-owed.result l.at c.token_size-n.ensures c.if-n-eq0.false c.owed_after-owed.ensures l.invariant.1,
-      left-next _ answered s l.at l.owed l.invariant.2 x (part_rest s l.at) n c.token_size-n.ensures c.if-n-eq0.false c.owed_after-owed.result
-          (λ t k r. answered_next t r m l.owed c.owed_after-owed.result k c.owed_after-owed.ensures),
+    let m = get_or (part c.args.s.now l.at) 0 0 in
+    let t = read-at c.in-Some.ensures c.in-Some.t.there in
+    let n = size-at c.in-Some.ensures c.in-Some.t.there c.size-at.ensures in
+    let e = c.owed_after-owed.result in (
+      omega (arith, (size-within c.args.s.now l.at t n).1),
+      owed-room t n l.owed e l.at c.owed_after-owed.ensures l.invariant.1,
+      left-next l.invariant.2 t n e (λ u k r. answered_next u r m l.owed e k c.owed_after-owed.ensures),
     )
 
 pub returns : goal.returns
 unfolding answered
-returns c = left_end _ answered c.args.s.now c.loop-at.at c.loop-at.owed c.loop-at.invariant.2 c.loop-at-test.false
+returns c = left_end c.loop-at.invariant.2 c.loop-at-test.false

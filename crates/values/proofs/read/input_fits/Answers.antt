@@ -1,62 +1,42 @@
-use Prim.Native.Nat.{◌-◌}
 use native.Mathlib.Omega.{arith}
-use lib.ListN.{length, get_or, take, drop}
-use Rattle.symbols.proofs.Parts.{part_rest}
+use lib.ListN.{get_or}
 use Rattle.meaning.proofs.Tokens.{balanced}
-use Rattle.values.proofs.Turns.{input-start, left_end, left-none, left-next, left_false, size-within, part_there, last-yes, last-no, depth_small, balanced_next, balanced_closed}
+use Rattle.values.proofs.Sizes.{read-at, size-at}
+use Rattle.values.proofs.Turns.{part, input-start, left_end, left-none, left-next, left_false, size-within, depth_small, balanced_next, balanced_closed}
 use Rattle.values.proofs.read.input_fits.Goals as goal
 
 pub loop-at-init : goal.loop-at-init
 loop-at-init c = (omega arith, omega arith, input-start c.args.s.now)
 
-pub returns-then-n-eq0 : goal.returns-then-n-eq0
-returns-then-n-eq0 c =
-    let s = c.args.s.now in
+pub returns-in_default : goal.returns-in_default
+returns-in_default c = left-none c.loop-at.invariant.2 c.loop-at-test.true c.in_default.ensures
+
+pub returns-in_default-depth_after : goal.returns-in_default-depth_after
+returns-in_default-depth_after c =
     let l = c.loop-at in
-    left-none _ balanced s l.at l.depth l.invariant.2 (take (length s - l.at) (drop l.at s)) (part_rest s l.at) c.token_size-n.result c.token_size-n.ensures c.loop-at-test.true c.if-n-eq0.true
-
-pub bounds-x-0 : goal.bounds-x-0
-bounds-x-0 c = omega (arith, part_there c.args.s.now c.loop-at.at c.loop-at-test.true)
-
-pub returns-then-is_last_close : goal.returns-then-is_last_close
-returns-then-is_last_close c =
-    let s = c.args.s.now in
-    let l = c.loop-at in
-    let x = take (length s - l.at) (drop l.at s) in
-    let y = last-yes (get_or x 0 0) l.depth c.is_last_close.ensures c.if-is_last_close.true in
-    left_false _ balanced s l.at l.depth l.invariant.2 x (part_rest s l.at) c.token_size-n.result c.token_size-n.ensures c.if-n-eq0.false
-    (λ t k m. balanced_closed t m (get_or x 0 0) l.depth k y.0 y.1)
-
-pub bounds-x-0-in-loop-at : goal.bounds-x-0-in-loop-at
-bounds-x-0-in-loop-at c = omega (arith, part_there c.args.s.now c.loop-at.at c.loop-at-test.true)
-
-pub depth_after-depth-requires : goal.depth_after-depth-requires
-depth_after-depth-requires c =
-    let s = c.args.s.now in
-    let l = c.loop-at in
-    (omega arith, last-no (get_or (take (length s - l.at) (drop l.at s)) 0 0) l.depth c.is_last_close.ensures c.if-is_last_close.false)
+    let d = c.in_default-depth_after.ensures in
+    left_false l.invariant.2 (read-at c.in-Some.ensures c.in-Some.t.there) (λ t k m. balanced_closed t m (get_or (part c.args.s.now l.at) 0 0) l.depth k d.0 d.1)
 
 pub overflow_add-at : goal.overflow_add-at
-overflow_add-at c = let s = c.args.s.now in omega (arith, size-within s c.loop-at.at c.token_size-n.result (rw part_rest at c.token_size-n.ensures))
+overflow_add-at c = omega (arith, (size-within c.args.s.now c.loop-at.at (read-at c.in-Some.ensures c.in-Some.t.there) (size-at c.in-Some.ensures c.in-Some.t.there c.size-at.ensures)).1)
 
 pub loop-at-smaller : goal.loop-at-smaller
-loop-at-smaller c = let s = c.args.s.now in omega (arith, size-within s c.loop-at.at c.token_size-n.result (rw part_rest at c.token_size-n.ensures), c.if-n-eq0.false)
+loop-at-smaller c =
+    let w = size-within c.args.s.now c.loop-at.at (read-at c.in-Some.ensures c.in-Some.t.there) (size-at c.in-Some.ensures c.in-Some.t.there c.size-at.ensures) in
+    omega (arith, w.0, w.1)
 
 pub loop-at-preserved : goal.loop-at-preserved
 loop-at-preserved c =
-    let s = c.args.s.now in
     let l = c.loop-at in
-    let x = take (length s - l.at) (drop l.at s) in
-    let m = get_or x 0 0 in
-    let n = c.token_size-n.result in
-    let w = size-within s l.at n (rw part_rest at c.token_size-n.ensures) in
-    let d = depth_small m l.depth c.depth_after-depth.ensures in (
-      omega (arith, w),
-      omega (arith, d, c.if-n-eq0.false),
-      left-next _ balanced s l.at l.depth l.invariant.2 x (part_rest s l.at) n c.token_size-n.ensures c.if-n-eq0.false c.depth_after-depth.result
-          (λ t k r. balanced_next t r m l.depth c.depth_after-depth.result k (last-no m l.depth c.is_last_close.ensures c.if-is_last_close.false) c.depth_after-depth.ensures),
-    )
+    let m = get_or (part c.args.s.now l.at) 0 0 in
+    let t = read-at c.in-Some.ensures c.in-Some.t.there in
+    let n = size-at c.in-Some.ensures c.in-Some.t.there c.size-at.ensures in
+    let w = size-within c.args.s.now l.at t n in
+    let e = c.in-Some-depth_after.after in
+    let g = c.in-Some-depth_after.ensures in
+    let d = depth_small m l.depth g.0 in
+    (omega (arith, w.1), omega (arith, d, w.0), left-next l.invariant.2 t n e (λ u k r. balanced_next u r m l.depth e k g.1 g.0))
 
 pub returns : goal.returns
 unfolding balanced
-returns c = left_end _ balanced c.args.s.now c.loop-at.at c.loop-at.depth c.loop-at.invariant.2 c.loop-at-test.false
+returns c = left_end c.loop-at.invariant.2 c.loop-at-test.false

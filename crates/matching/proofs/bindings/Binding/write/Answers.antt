@@ -1,8 +1,8 @@
--- `matching::bindings::put_binding` meets its contract. Assumes nothing.
+-- `matching::bindings::Binding::write` meets its contract. Assumes nothing.
 use native.Mathlib.Omega.{arith}
 use Rattle.program.specs.Bytes.{put16}
 use Rattle.matching.proofs.Held.{binding_emitted}
-use Rattle.matching.proofs.bindings.put_binding.Goals as goal
+use Rattle.matching.proofs.bindings.Binding.write.Goals as goal
 
 pub put_number-third-requires : goal.put_number-third-requires
 unfolding put16
@@ -18,5 +18,5 @@ put_number-requires c = omega (arith, c.requires, c.put_number-second.ensures.af
 
 pub returns : goal.returns
 returns c =
-    let a = c.args in
-    binding_emitted a.place a.from a.until a.end c.put_number-second.ensures c.put_number-third.ensures c.put_number-fourth.ensures c.put_number.ensures
+    let b = c.args.self in
+    binding_emitted b.place b.from b.until b.end c.put_number-second.ensures c.put_number-third.ensures c.put_number-fourth.ensures c.put_number.ensures

@@ -1,149 +1,114 @@
 // Whether a text holds the names and symbols of an image, in order, and no others.
-ghost use Rattle.std.specs.Prelude.{◌+◌, ◌<◌, ◌≤◌, length};
+ghost use Rattle.std.specs.Prelude.{◌+◌, ◌<◌, ◌≤◌, length, IfSome};
 
-// The byte at i, 0 past the end.
+// What a text is in, outside of the names: a comment ends with its line, a word like $ENTRY with a space.
+#[derive(Clone, Copy, PartialEq, Eq)]
+enum Mode {
+    Plain,
+    Comment,
+    Word,
+}
+
+impl Mode {
+    // What the byte c leads into.
+    fn after(self, c: u8) -> Mode {
+        match (self, c) {
+            (Mode::Plain, b'*') => Mode::Comment,
+            (Mode::Plain, b'$') => Mode::Word,
+            (Mode::Comment, b'\n') => Mode::Plain,
+            (Mode::Word, b' ') => Mode::Plain,
+            (mode, _) => mode,
+        }
+    }
+}
+
+// The byte at i, 0 past the end: a length or a count that is cut off is 0 to each caller, and an Option would only be opened there.
 fn byte_at(s: &[u8], i: usize) -> u8 {
-    if i < s.len() { s[i] } else { 0 }
+    s.get(i).copied().unwrap_or(0)
 }
 
 // The number in the two bytes at p, which is enough for a place of a text.
-fn place_at(b: &[u8], p: usize) -> usize
+fn place_at(b: &[u8], p: usize) -> Option<usize>
     requires { p ≤ 40000 }
-    ensures { result < 65536 }
+    ensures { IfSome result (λ n. n < 65536) }
 {
-    let low = byte_at(b, p);
-    let high = byte_at(b, p + 1);
-    (low as usize) + 256 * (high as usize)
+    Some(usize::from(u16::from_le_bytes([*b.get(p)?, *b.get(p + 1)?])))
 }
 
-// Whether n bytes of a from i on are those of t from j on.
-fn same_from(a: &[u8], i: usize, t: &[u8], j: usize, n: u8) -> bool
-    requires { (i ≤ 40000) × (j ≤ 80000) }
-{
-    let end = n as usize;
-    let mut k: usize = 0;
-    while k < end {
-        if byte_at(a, i + k) != byte_at(t, j + k) {
-            return false;
-        }
-        k += 1;
-    }
-    true
-}
-
-// What a byte outside of names leads into: 1 a comment, which ends with its line, 2 a word like $ENTRY, which ends with a space.
-fn next_mode(mode: u8, c: u8) -> u8 {
-    if mode == 1 {
-        return if c == 10 { 0 } else { 1 };
-    }
-    if mode == 2 {
-        return if c == 32 { 0 } else { 2 };
-    }
-    if c == 42 {
-        return 1;
-    }
-    if c == 36 { 2 } else { 0 }
-}
-
-// A letter or a digit, which begins a name.
-fn begins_name(c: u8) -> bool {
-    if c < 48 {
-        return false;
-    }
-    if c < 58 {
-        return true;
-    }
-    if c < 65 {
-        return false;
-    }
-    if c < 91 {
-        return true;
-    }
-    if c < 97 {
-        return false;
-    }
-    c < 123
-}
-
-// Where the next name of the text begins, from q on: its length, if there is none.
-fn next_name(t: &[u8], q: usize) -> usize
+// Where the next name of the text begins, from q on, with a letter or a digit.
+fn next_name(t: &[u8], q: usize) -> Option<usize>
     requires { q ≤ length t.now }
-    ensures { result ≤ length t.now }
+    ensures { IfSome result (λ n. n < length t.now) }
 {
-    let mut i = q;
-    let mut mode: u8 = 0;
-    while i < t.len() {
+    let mut mode = Mode::Plain;
+    for i in q..t.len() {
         let c = t[i];
-        if mode == 0 {
-            if begins_name(c) {
-                return i;
-            }
+        if mode == Mode::Plain && c.is_ascii_alphanumeric() {
+            return Some(i);
         }
-        mode = next_mode(mode, c);
-        i += 1;
+        mode = mode.after(c);
     }
-    i
+    None
 }
 
-// Past the name at `at` of the image, which stands after `lead` bytes of the text's next word; past the text, if it does not.
-fn name_end(b: &[u8], at: usize, t: &[u8], q: usize, lead: usize) -> usize
+// Past the name at `at` of the image, which stands after `lead` bytes of the text's next word, if it does.
+fn name_end(b: &[u8], at: usize, t: &[u8], q: usize, lead: usize) -> Option<usize>
     requires { (at ≤ 33000) × (q ≤ length t.now) × (length t.now ≤ 32768) × (lead ≤ 2) }
+    ensures { IfSome result (λ n. n ≤ length t.now) }
 {
-    let n = byte_at(b, at);
-    let from = next_name(t, q) + lead;
-    if same_from(b, at + 1, t, from, n) {
-        return from + n as usize;
+    let n = usize::from(*b.get(at)?);
+    let name = b.get(at + 1..at + 1 + n)?;
+    let from = next_name(t, q)? + lead;
+    if t.get(from..from + n)? == name {
+        Some(from + n)
+    } else {
+        None
     }
-    t.len() + 1
 }
 
 // The same of a character, where its span says, behind a quote or another character.
-fn character_end(b: &[u8], p: usize, t: &[u8], q: usize) -> usize
+fn character_end(b: &[u8], p: usize, t: &[u8], q: usize) -> Option<usize>
     requires { (p ≤ 32768) × (q ≤ length t.now) × (length t.now ≤ 32768) }
+    ensures { IfSome result (λ n. n ≤ length t.now) }
 {
-    let start = place_at(b, p + 1);
-    let at = if byte_at(t, start) == 39 {
+    let start = place_at(b, p + 1)?;
+    let at = if *t.get(start)? == b'\'' {
         start + 1
     } else {
         start
     };
-    if next_name(t, q) < at {
-        return t.len() + 1;
+    let is_next = next_name(t, q).is_none_or(|n| at <= n);
+    if is_next && t.get(at)? == b.get(p + 9)? {
+        Some(at + 1)
+    } else {
+        None
     }
-    if byte_at(t, at) == byte_at(b, p + 9) {
-        return at + 1;
-    }
-    t.len() + 1
 }
 
 // How many names of a declaration are still to come after the record, or the name, at p.
 fn names_after(b: &[u8], p: usize, names: u8) -> u8
     requires { (p < length b.now) × (length b.now ≤ 32768) }
 {
-    if 0 < names {
+    if names > 0 {
         return names - 1;
     }
     if b[p] == 17 { byte_at(b, p + 9) } else { 0 }
 }
 
-// Past what the text has of the record at p, or of one of so many names; past the text, if it has something else.
-fn record_end(b: &[u8], p: usize, t: &[u8], q: usize, names: u8) -> usize
+// Past what the text has of the record at p, or of one of so many names, if it has that.
+fn record_end(b: &[u8], p: usize, t: &[u8], q: usize, names: u8) -> Option<usize>
     requires { (p < length b.now) × (length b.now ≤ 32768) × (q ≤ length t.now) × (length t.now ≤ 32768) }
+    ensures { IfSome result (λ n. n ≤ length t.now) }
 {
-    if 0 < names {
+    if names > 0 {
         return name_end(b, p, t, q, 0);
     }
-    let m = b[p];
-    match m {
+    match b[p] {
         1 => character_end(b, p, t, q),
-        2 => name_end(b, p + 9, t, q, 0),
-        3 => name_end(b, p + 9, t, q, 0),
-        4 => name_end(b, p + 9, t, q, 2),
-        5 => name_end(b, p + 9, t, q, 2),
-        6 => name_end(b, p + 9, t, q, 2),
-        8 => name_end(b, p + 9, t, q, 0),
+        2 | 3 | 8 => name_end(b, p + 9, t, q, 0),
+        4..=6 => name_end(b, p + 9, t, q, 2),
         18 => name_end(b, p + 10, t, q, 0),
-        _ => q,
+        _ => Some(q),
     }
 }
 
@@ -152,51 +117,35 @@ fn record_len(b: &[u8], p: usize, names: u8) -> usize
     requires { (p < length b.now) × (length b.now ≤ 32768) }
     ensures { (0 < result) × (result ≤ 300) }
 {
-    if 0 < names {
-        return 1 + byte_at(b, p) as usize;
+    if names > 0 {
+        return 1 + usize::from(b[p]);
     }
-    let m = b[p];
-    if m == 1 {
-        return 13;
+    match b[p] {
+        1 => 13,
+        0 | 2..=6 | 8 => 10 + usize::from(byte_at(b, p + 9)),
+        7 | 9..=11 => 9,
+        17 => 10,
+        18 => 11 + usize::from(byte_at(b, p + 10)),
+        _ => 1,
     }
-    if m < 7 {
-        return 10 + byte_at(b, p + 9) as usize;
-    }
-    if m == 8 {
-        return 10 + byte_at(b, p + 9) as usize;
-    }
-    if m < 12 {
-        return 9;
-    }
-    if m == 17 {
-        return 10;
-    }
-    if m == 18 {
-        return 11 + byte_at(b, p + 10) as usize;
-    }
-    1
 }
 
 // Whether the text t holds the names and symbols of the body b.
 pub fn is_spelled(b: &[u8], t: &[u8]) -> bool {
-    if 32768 < b.len() {
+    if b.len() > 32768 || t.len() > 32768 {
         return false;
     }
-    if 32768 < t.len() {
-        return false;
-    }
-    let mut p: usize = 0;
-    let mut q: usize = 0;
-    let mut names: u8 = 0;
+    let mut p = 0;
+    let mut q = 0;
+    let mut names = 0;
     while p < b.len() {
-        let end = record_end(b, p, t, q, names);
-        if t.len() < end {
+        let Some(end) = record_end(b, p, t, q, names) else {
             return false;
-        }
+        };
         q = end;
         let len = record_len(b, p, names);
         names = names_after(b, p, names);
         p += len;
     }
-    next_name(t, q) == t.len()
+    next_name(t, q).is_none()
 }

@@ -1,7 +1,7 @@
 // Reads an image from standard input and says whether it is accepted, or why it is refused.
 #![tactic(auto)]
 
-use reader::check::Checked;
+use reader::check::check;
 use std::io;
 use std::io::Input;
 use streams::read_full;
@@ -9,9 +9,8 @@ use streams::read_full;
 fn main(rt: HostRuntime) -> io::Result<()> {
     let mut buf = [0u8; 65536];
     let n = read_full(&mut rt.reader(), &mut buf)?;
-    let v = reader::check::check(&buf[..n]);
-    match v {
-        Checked::Refused(f) => println!(rt; "refused {} at {}", f.number, f.place),
-        Checked::Accepted => println!(rt; "accepted"),
+    match check(&buf[..n]) {
+        Err(f) => println!(rt; "{f}"),
+        Ok(()) => println!(rt; "accepted"),
     }
 }

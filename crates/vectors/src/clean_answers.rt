@@ -1,160 +1,36 @@
 // Clean's answers: data/clean, which tools/clean_vectors.py writes, has a record for each, and that
 // script says how a record is laid out.
-ghost use Rattle.streams.specs.Counts.{IsPrefixLen};
-
-use crate::records::{Asked, pair};
-use answers::CleanAnswer;
-use std::io;
-use std::io::Read;
-use streams::read_full;
-
-// What the lent bytes and entries hold before the call: not zero, so that a change is seen.
-pub const LENT_BYTE: u8 = 165;
-
-const LENT_ENTRY: u32 = 2779096485;
+use crate::records::{
+    LENT_BYTE, LENT_ENTRY, NO_PART, Part, Question, image_part, is_written, pair,
+};
+use answers::Lengths;
+use program::Refusal;
 
 // A record: the length of the image that follows (0: the image before stays), the lent lengths, the
 // answer, and whether the cleaned image and the report follow (otherwise those before stay).
 #[derive(Clone, Copy)]
-struct Question {
+pub struct CleanQuestion {
     len: usize,
     output: usize,
     work: usize,
     report: usize,
     follow: bool,
-    expected: Values,
-}
-
-// Document 01's numbers for an answer; the lengths are 0 where it is a refusal.
-#[derive(Clone, Copy)]
-struct Values {
-    number: u8,
-    place: usize,
-    output: usize,
-    report: usize,
-}
-
-// A place of four bytes: the length of a report that no question lends can be a large one.
-fn quad(low: u8, second: u8, third: u8, high: u8) -> usize {
-    (low as usize) + 256 * (second as usize) + 65536 * (third as usize) + 16777216 * (high as usize)
-}
-
-fn read_values(h: &[u8; 18]) -> Values {
-    Values {
-        number: h[8],
-        place: quad(h[10], h[11], h[12], h[13]),
-        output: pair(h[14], h[15]),
-        report: pair(h[16], h[17]),
-    }
-}
-
-fn read_question(h: &[u8; 18]) -> Question {
-    let expected = read_values(h);
-    Question {
-        len: pair(h[0], h[1]),
-        output: pair(h[2], h[3]),
-        work: pair(h[4], h[5]),
-        report: pair(h[6], h[7]),
-        follow: h[9] == 1,
-        expected,
-    }
-}
-
-fn values_of(a: CleanAnswer) -> Values {
-    match a {
-        CleanAnswer::Cleaned(n) => Values {
-            number: 0,
-            place: 0,
-            output: n.output,
-            report: n.report,
-        },
-        CleanAnswer::Refused(f) => Values {
-            number: f.number,
-            place: f.place,
-            output: 0,
-            report: 0,
-        },
-    }
-}
-
-fn is_same(a: Values, b: Values) -> bool {
-    if a.number != b.number {
-        return false;
-    }
-    if a.place != b.place {
-        return false;
-    }
-    if a.output != b.output {
-        return false;
-    }
-    a.report == b.report
-}
-
-// Whether the bytes begin with the text and are as they were lent after it.
-pub fn is_written(text: &[u8], bytes: &[u8]) -> bool {
-    if bytes.len() < text.len() {
-        return false;
-    }
-    let mut i: usize = 0;
-    while i < bytes.len() {
-        let expected = if i < text.len() { text[i] } else { LENT_BYTE };
-        if bytes[i] != expected {
-            return false;
-        }
-        i += 1;
-    }
-    true
-}
-
-// Whether every entry is x.
-fn is_every(work: &[u32], x: u32) -> bool {
-    let mut i: usize = 0;
-    while i < work.len() {
-        if work[i] != x {
-            return false;
-        }
-        i += 1;
-    }
-    true
+    expected: Result<Lengths, Refusal>,
 }
 
 // What the entries of work hold after an answer: zero where the image was cleaned, also if the
 // report was then too long.
-fn entry_after(number: u8) -> u32 {
-    if number == 0 {
-        return 0;
+fn entry_after(answer: Result<Lengths, Refusal>) -> u32 {
+    match answer {
+        Ok(_) | Err(Refusal { number: 12, .. }) => 0,
+        Err(_) => LENT_ENTRY,
     }
-    if number == 12 { 0 } else { LENT_ENTRY }
 }
 
-// No more than work has.
-fn entries_within(n: usize, work: &[u32]) -> usize
-    ensures { IsPrefixLen result work.now }
-{
-    if n <= work.len() { n } else { work.len() }
-}
-
-// Clean's answer with the asked lengths lent, from the beginning of each slice.
-fn clean_lent(
-    img: &[u8],
-    q: Question,
-    output: &mut [u8],
-    work: &mut [u32],
-    report: &mut [u8],
-) -> CleanAnswer {
-    let o = crate::records::within(q.output, output);
-    let w = entries_within(q.work, work);
-    let r = crate::records::within(q.report, report);
-    cleaner::clean(img, &mut output[..o], &mut work[..w], &mut report[..r])
-}
-
-// Whether the first n entries of work are as they should be after an answer, and the others as before.
-fn is_work_left(work: &[u32], n: usize, number: u8) -> bool {
-    let w = entries_within(n, work);
-    if !is_every(&work[..w], entry_after(number)) {
-        return false;
-    }
-    is_every(&work[w..], LENT_ENTRY)
+// Whether the entries that were lent are as they should be after an answer, and the others as before.
+fn is_work_left(lent: &[u32], rest: &[u32], answer: Result<Lengths, Refusal>) -> bool {
+    let entry = entry_after(answer);
+    lent.iter().all(|x| *x == entry) && rest.iter().all(|x| *x == LENT_ENTRY)
 }
 
 // Whether cleaning a cleaned image gives it back: "Touring desks clean a show again at each load."
@@ -162,75 +38,57 @@ fn is_kept_again(cleaned: &[u8]) -> bool {
     let mut output = [LENT_BYTE; 33024];
     let mut work = [LENT_ENTRY; 8256];
     let mut report = [LENT_BYTE; 65536];
-    let a = cleaner::clean(cleaned, &mut output, &mut work, &mut report);
-    let v = values_of(a);
-    if v.number != 0 {
-        return false;
+    match cleaner::clean(cleaned, &mut output, &mut work, &mut report) {
+        Ok(n) => n.output == cleaned.len() && is_written(cleaned, &output),
+        Err(_) => false,
     }
-    if v.output != cleaned.len() {
-        return false;
-    }
-    is_written(cleaned, &output)
 }
 
-// Whether Clean answers the image as it should, and leaves the cleaned image, the report and work so.
-fn is_answered(img: &[u8], cleaned: &[u8], text: &[u8], q: Question) -> bool {
-    let mut output = [LENT_BYTE; 33024];
-    let mut work = [LENT_ENTRY; 8256];
-    let mut report = [LENT_BYTE; 65536];
-    let a = clean_lent(img, q, &mut output, &mut work, &mut report);
-    let expected = q.expected;
-    if !is_same(values_of(a), expected) {
-        return false;
+impl Question<18> for CleanQuestion {
+    fn read(head: &[u8; 18]) -> CleanQuestion {
+        CleanQuestion {
+            len: pair(head[0], head[1]),
+            output: pair(head[2], head[3]),
+            work: pair(head[4], head[5]),
+            report: pair(head[6], head[7]),
+            follow: head[9] == 1,
+            expected: match head[8] {
+                0 => Ok(Lengths {
+                    output: pair(head[14], head[15]),
+                    report: pair(head[16], head[17]),
+                }),
+                number => Err(Refusal {
+                    number,
+                    // The length of a report that no question lends can be a large one.
+                    place: u32::from_le_bytes([head[10], head[11], head[12], head[13]]) as usize,
+                }),
+            },
+        }
     }
-    if !is_work_left(&work, q.work, expected.number) {
-        return false;
-    }
-    if !is_written(cleaned, &output) {
-        return false;
-    }
-    if !is_written(text, &report) {
-        return false;
-    }
-    if expected.number == 0 {
-        return is_kept_again(cleaned);
-    }
-    true
-}
 
-// How many bytes of that many follow.
-fn following(n: usize, follow: bool) -> usize {
-    if follow { n } else { 0 }
-}
-
-// Reads the next record and asks it; the image before has n bytes, and the cleaned image and the
-// report before are in output and report.
-pub fn ask_next<R: Read>(
-    file: &mut R,
-    buf: &mut [u8],
-    n: usize,
-    output: &mut [u8],
-    report: &mut [u8],
-) -> io::Result<Asked> {
-    let mut h = [0u8; 18];
-    if read_full(file, &mut h)? < 18 {
-        return Ok(Asked::Ended);
+    fn parts(&self, before: usize) -> [Part; 3] {
+        let image = image_part(self.len, before);
+        match self.expected {
+            Ok(n) if self.follow => [image, Part::Follows(n.output), Part::Follows(n.report)],
+            Ok(n) => [image, Part::Stays(n.output), Part::Stays(n.report)],
+            Err(_) => [image, NO_PART, NO_PART],
+        }
     }
-    let q = read_question(&h);
-    let expected = q.expected;
-    let k = crate::records::read_image(file, buf, n, q.len)?;
-    let o = crate::records::read_image(
-        file,
-        output,
-        expected.output,
-        following(expected.output, q.follow),
-    )?;
-    let r = crate::records::read_image(
-        file,
-        report,
-        expected.report,
-        following(expected.report, q.follow),
-    )?;
-    let ok = is_answered(&buf[..k], &output[..o], &report[..r], q);
-    Ok(Asked::Answered(k, ok))
+
+    // Whether the answer is the stored one, and the cleaned image, the report and work are left so.
+    fn is_answered(&self, img: &mut [u8], cleaned: &[u8], text: &[u8]) -> bool {
+        let mut output = [LENT_BYTE; 33024];
+        let mut work = [LENT_ENTRY; 8256];
+        let mut report = [LENT_BYTE; 65536];
+        let o = self.output.min(output.len());
+        let w = self.work.min(work.len());
+        let r = self.report.min(report.len());
+        let answer = cleaner::clean(img, &mut output[..o], &mut work[..w], &mut report[..r]);
+        let expected = self.expected;
+        answer == expected
+            && is_work_left(&work[..w], &work[w..], expected)
+            && is_written(cleaned, &output)
+            && is_written(text, &report)
+            && (expected.is_err() || is_kept_again(cleaned))
+    }
 }

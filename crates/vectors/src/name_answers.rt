@@ -1,27 +1,37 @@
 // The comparison of names: data/names, which tools/name_vectors.py writes, has a record for each pair,
 // and that script says how a record is laid out.
-use crate::records::{Asked, pair, read_image};
-use std::io;
-use std::io::Read;
-use streams::read_full;
+use crate::records::{NO_PART, Part, Question};
+use patterns::NameComparison;
 
-// Whether two names compare as they should.
-fn is_answered(a: &[u8], b: &[u8], equal: bool, compared: usize) -> bool {
-    let c = symbols::compare_names(a, b);
-    if c.compared != compared {
-        return false;
-    }
-    if c.equal { equal } else { !equal }
+// A record: the lengths of the two names, which follow, and the answer.
+#[derive(Clone, Copy)]
+pub struct NameQuestion {
+    first: usize,
+    second: usize,
+    expected: NameComparison,
 }
 
-// Reads the next record and asks it.
-pub fn ask_next<R: Read>(file: &mut R, first: &mut [u8], second: &mut [u8]) -> io::Result<Asked> {
-    let mut h = [0u8; 4];
-    if read_full(file, &mut h)? < 4 {
-        return Ok(Asked::Ended);
+impl Question<4> for NameQuestion {
+    fn read(head: &[u8; 4]) -> NameQuestion {
+        NameQuestion {
+            first: usize::from(head[0]),
+            second: usize::from(head[1]),
+            expected: NameComparison {
+                equal: head[2] == 1,
+                compared: usize::from(head[3]),
+            },
+        }
     }
-    let n = read_image(file, first, 0, pair(h[0], 0))?;
-    let m = read_image(file, second, 0, pair(h[1], 0))?;
-    let ok = is_answered(&first[..n], &second[..m], h[2] == 1, pair(h[3], 0));
-    Ok(Asked::Answered(n, ok))
+
+    fn parts(&self, _before: usize) -> [Part; 3] {
+        [
+            Part::Follows(self.first),
+            Part::Follows(self.second),
+            NO_PART,
+        ]
+    }
+
+    fn is_answered(&self, first: &mut [u8], second: &[u8], _report: &[u8]) -> bool {
+        symbols::compare_names(first, second) == self.expected
+    }
 }

@@ -1,37 +1,68 @@
-// What the records of all files share: an image that may stay for the next record, and the answer.
-ghost use Rattle.std.specs.Prelude.{IfOk};
+// What the records of all files share: a head of N bytes, which says what is asked and what the answer is, and up to three
+// texts that follow it.
+ghost use Rattle.std.specs.Prelude.{◌<◌, IfOk};
 ghost use Rattle.streams.specs.Counts.{IsPrefixLen};
 
 use std::io;
 use std::io::Read;
 use streams::read_full;
 
-// What became of a record: the length of its image, and whether the answer was the stored one.
+// What the lent bytes and entries hold before the call: not zero, so that a change is seen.
+pub const LENT_BYTE: u8 = 165;
+
+pub const LENT_ENTRY: u32 = 2779096485;
+
+// A text of a record, of so many bytes: they follow, or those before stay.
 #[derive(Clone, Copy)]
-pub enum Asked {
-    Ended,
-    Answered(usize, bool),
+pub enum Part {
+    Follows(usize),
+    Stays(usize),
 }
 
-pub fn pair(low: u8, high: u8) -> usize {
-    (low as usize) + 256 * (high as usize)
+pub const NO_PART: Part = Part::Stays(0);
+
+// The question of a record, whose image comes first; `before` is the length of the image of the record before.
+pub trait Question<const N: usize>: Copy {
+    fn read(head: &[u8; N]) -> Self;
+
+    fn parts(&self, before: usize) -> [Part; 3];
+
+    // Whether the answer is the stored one; an image that is changed for this question is put back.
+    fn is_answered(&self, img: &mut [u8], output: &[u8], report: &[u8]) -> bool;
 }
 
-// No more than the buffer holds.
-pub fn within(n: usize, buf: &[u8]) -> usize
-    ensures { IsPrefixLen result buf.now }
+pub fn pair(low: u8, high: u8) -> usize
+    ensures { result < 65536 }
 {
-    if n <= buf.len() { n } else { buf.len() }
+    usize::from(u16::from_le_bytes([low, high]))
 }
 
-// The image that the record is about, read into buf where it is a new one: its length.
-pub fn read_image<R: Read>(file: &mut R, buf: &mut [u8], n: usize, len: usize) -> io::Result<usize>
+// An image of that many bytes: of 0 where the image before stays.
+pub fn image_part(len: usize, before: usize) -> Part {
+    if len == 0 {
+        Part::Stays(before)
+    } else {
+        Part::Follows(len)
+    }
+}
+
+// The part's length, no more than the buffer holds, with its bytes in the buffer.
+pub fn read_part<R: Read>(file: &mut R, buf: &mut [u8], part: Part) -> io::Result<usize>
     ensures { IfOk result (λ k. IsPrefixLen k buf.new) }
 {
-    if len == 0 {
-        return Ok(within(n, buf));
+    match part {
+        Part::Follows(len) => {
+            let n = len.min(buf.len());
+            read_full(file, &mut buf[..n])
+        }
+        Part::Stays(len) => Ok(len.min(buf.len())),
     }
-    let m = within(len, buf);
-    let k = read_full(file, &mut buf[..m])?;
-    Ok(within(k, buf))
+}
+
+// Whether the bytes begin with the text and are as they were lent after it.
+pub fn is_written(text: &[u8], bytes: &[u8]) -> bool {
+    match bytes.strip_prefix(text) {
+        Some(rest) => rest.iter().all(|b| *b == LENT_BYTE),
+        None => false,
+    }
 }

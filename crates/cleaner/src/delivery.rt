@@ -10,7 +10,8 @@ use index::Plan;
 use output::mark::count_ones;
 use output::writer::write_kept;
 use program::Refusal;
-use report::format::{count_lists, format_clean_report, measure_clean_report};
+use report::entries::Entries;
+use report::format::{count_lists, format_clean_report};
 
 // The cleaned image and the report, if there is room for that.
 pub fn deliver(
@@ -32,7 +33,8 @@ pub fn deliver(
     let end = plan.calls();
     let after = count_ones(&work[from..end]);
     let figures = count_lists(b, work, plan, root, rounds, after, &mut report[..0]);
-    let needed = measure_clean_report(b, work, plan, root, rounds, figures, &mut report[..0]);
+    let entries = Entries { b, work, plan };
+    let needed = entries.measure_clean_report(root, rounds, figures, &mut report[..0]);
     if report.len() < needed {
         return Refusal::at(12, needed);
     }

@@ -1,5 +1,6 @@
 pub mod Notes
 pub mod Emitting
+pub mod Entries
 pub mod Leading
 pub mod Listing
 pub mod Names

@@ -19,7 +19,7 @@ ghost use Rattle.report.specs.Emitting.{Readable, SomeReadable, SomeSentence};
 ghost use Rattle.report.specs.Notes.{is_open, open_at, OpenSet, OpenUpto, FunctionOpen, DecidedUpto};
 
 use crate::AFTER_ALL;
-use crate::sentence::sentences_of;
+use crate::entries::Entries;
 use cleaning::verdict::verdict_at;
 use cleaning::walks::{is_judged, is_there, site_there, witness_of};
 use index::Plan;
@@ -82,13 +82,15 @@ fn set_open(work: &mut [u32], plan: Plan, s: usize, undecided: bool)
     work[k] = if undecided { e + UNDECIDED } else { e };
 }
 
-// Whether it is noted of the sentence s.
-pub fn is_undecided(work: &[u32], plan: Plan, s: usize) -> bool
-    requires { (s < plan.sentences) × Reaches (marks plan) work.now }
-    ensures { result ≡ is_open plan work.now s }
-{
-    let k = plan.lines() + s;
-    work[k] / UNDECIDED == 1
+impl<'b, 'w> Entries<'b, 'w> {
+    // Whether it is noted of the sentence s.
+    pub fn is_undecided(&self, s: usize) -> bool
+        requires { (s < self.now.plan.sentences) × Reaches (marks self.now.plan) self.now.work.now }
+        ensures { result ≡ is_open self.now.plan self.now.work.now s }
+    {
+        let k = self.plan.lines() + s;
+        self.work[k] / UNDECIDED == 1
+    }
 }
 
 // Asks for every sentence of the f-th function.
@@ -96,7 +98,7 @@ fn note_sentences(b: &[u8], work: &mut [u32], plan: Plan, f: usize)
     requires { SomeReadable b.now work.old plan × (f < plan.functions) }
     ensures { (w : Program) (x : Function) → Readable b.now w work.old plan → get_elem? w.functions f ≡ some x → OpenUpto w work.old work.new plan f x (sentences_before (suc f) w.functions) }
 {
-    let own = sentences_of(work, plan, f);
+    let own = Entries { b, work, plan }.sentences_of(f);
     for s in own.start..own.end {
         let undecided = stays_open(b, work, plan, f, s);
         set_open(work, plan, s, undecided);

@@ -15,11 +15,9 @@ ghost use Rattle.report.specs.Removed.{Removing, SomeRemoving};
 ghost use Rattle.report.specs.Format.{listed_text};
 ghost use Rattle.report.specs.Figures.{FiguresOf, Few, Reporting, SomeReporting, anew};
 
+use crate::entries::Entries;
 use crate::listing::Lines;
-use crate::names::put_uncharacterised;
-use crate::removed::put_removed;
 use crate::uncovered::put_uncovered;
-use crate::undecided::put_undecided;
 use index::Plan;
 use text::counts::{Graph, Top};
 use text::writer::Writer;
@@ -76,11 +74,12 @@ pub fn count_lists(
         text: none,
         filled: 0,
     };
-    let names = put_uncharacterised(b, work, plan, root, &mut w);
+    let entries = Entries { b, work, plan };
+    let names = entries.put_uncharacterised(root, &mut w);
     let uncharacterised = measured(&mut w, names);
-    let gone = put_removed(b, work, plan, rounds, &mut w);
+    let gone = entries.put_removed(rounds, &mut w);
     let removed = measured(&mut w, gone);
-    let open = put_undecided(b, work, plan, &mut w);
+    let open = entries.put_undecided(&mut w);
     let undecided = measured(&mut w, open);
     let bare = put_uncovered(b, work, plan, &mut w);
     let uncovered = measured(&mut w, bare);
@@ -122,12 +121,12 @@ fn put_lists(
     ensures short { out.new.filled ≤ 1000000001000000000 }
     ensures keeps { Used plan work.old work.new }
 {
-    put_removed(b, work, plan, rounds, out);
+    Entries { b, work, plan }.put_removed(rounds, out);
     out.put_count_line(b"undecided: ", figures.undecided.count);
-    put_undecided(b, work, plan, out);
+    Entries { b, work, plan }.put_undecided(out);
     out.put_count_line(b"uncovered: ", figures.uncovered.count);
     put_uncovered(b, work, plan, out);
-    put_uncharacterised(b, work, plan, root, out);
+    Entries { b, work, plan }.put_uncharacterised(root, out);
 }
 
 // The verdict.
@@ -177,30 +176,30 @@ fn pass_over(out: &mut Writer<'_>, bytes: usize)
     out.filled += bytes;
 }
 
-// Where the same report ends, emitted into no text: the lengths of the lists and of the line of names stand for them.
-pub fn measure_clean_report(
-    b: &[u8],
-    work: &[u32],
-    plan: Plan,
-    root: usize,
-    rounds: usize,
-    figures: Figures,
-    none: &mut [u8],
-) -> usize
-    requires { SomeReporting b.now work.now plan rounds figures × (rounds < 4096) × (length none.old ≡ 0) }
-    ensures { (w : Program) → Reporting b.now w work.now plan rounds figures → root ≡ root_place w → Emitted none.old 0 (format_clean_report (told_report w (fell_of plan work.now) rounds)) result none.new }
-{
-    let mut w = Writer {
-        text: none,
-        filled: 0,
-    };
-    put_top(plan, rounds, figures, &mut w);
-    pass_over(&mut w, figures.removed.at);
-    w.put_count_line(b"undecided: ", figures.undecided.count);
-    pass_over(&mut w, figures.undecided.at);
-    w.put_count_line(b"uncovered: ", figures.uncovered.count);
-    pass_over(&mut w, figures.uncovered.at);
-    pass_over(&mut w, figures.uncharacterised.at);
-    put_graph(plan, figures, &mut w);
-    w.filled
+impl<'b, 'w> Entries<'b, 'w> {
+    // Where the same report ends, emitted into no text: the lengths of the lists and of the line of names stand for them.
+    pub fn measure_clean_report(
+        &self,
+        root: usize,
+        rounds: usize,
+        figures: Figures,
+        none: &mut [u8],
+    ) -> usize
+        requires { SomeReporting self.now.b.now self.now.work.now self.now.plan rounds figures × (rounds < 4096) × (length none.old ≡ 0) }
+        ensures { (w : Program) → Reporting self.now.b.now w self.now.work.now self.now.plan rounds figures → root ≡ root_place w → Emitted none.old 0 (format_clean_report (told_report w (fell_of self.now.plan self.now.work.now) rounds)) result none.new }
+    {
+        let mut w = Writer {
+            text: none,
+            filled: 0,
+        };
+        put_top(self.plan, rounds, figures, &mut w);
+        pass_over(&mut w, figures.removed.at);
+        w.put_count_line(b"undecided: ", figures.undecided.count);
+        pass_over(&mut w, figures.undecided.at);
+        w.put_count_line(b"uncovered: ", figures.uncovered.count);
+        pass_over(&mut w, figures.uncovered.at);
+        pass_over(&mut w, figures.uncharacterised.at);
+        put_graph(self.plan, figures, &mut w);
+        w.filled
+    }
 }

@@ -3,6 +3,7 @@
 
 pub mod alike;
 pub mod decided;
+pub mod entries;
 pub mod format;
 pub mod leading;
 pub mod listing;

@@ -12,58 +12,58 @@ ghost use Rattle.told.specs.ToldReport.{uncharacterised_names};
 ghost use Rattle.text.specs.Fill.{limit};
 ghost use Rattle.text.specs.Written.{written};
 ghost use Rattle.meaning.specs.Report.{uncharacterised_line};
-ghost use Rattle.report.specs.Emitting.{Readable, SomeReadable};
+ghost use Rattle.report.specs.Entries.{Reads, SomeReads};
 ghost use Rattle.report.specs.Names.{is_uncharacterised, is_newly_uncharacterised, lead, uncharacterised_text, uncharacterised_count, line_end};
 
-use crate::alike::same_names;
-use crate::sentence::put_name;
-use index::Plan;
+use crate::entries::Entries;
 use index::table::{Kind, head_site};
 use text::writer::Writer;
 
-// Whether a site uncharacterises the f-th function.
-fn has_call_in_argument(work: &[u32], plan: Plan, f: usize) -> bool
-    requires { SomeBody work.now plan × (f < plan.functions) }
-    ensures { (b : List ℕ) (w : Program) (x : Function) → Indexed b w work.now plan → get_elem? w.functions f ≡ some x → result ≡ any (uncharacterises (λ s. true) x.name) (sites_of w) }
-{
-    head_site(work, plan.functions, f, Kind::Other) < plan.sites
-}
-
-// The same of a function that is not the root.
-fn is_uncharacterised(work: &[u32], plan: Plan, root: usize, f: usize) -> bool
-    requires { SomeBody work.now plan × (f < plan.functions) }
-    ensures { (b : List ℕ) (w : Program) (x : Function) → Indexed b w work.now plan → get_elem? w.functions f ≡ some x → result ≡ is_uncharacterised root (sites_of w) f x }
-{
-    f != root && has_call_in_argument(work, plan, f)
-}
-
-// Whether the g-th function is listed under the name of the f-th.
-fn is_namesake(b: &[u8], work: &[u32], plan: Plan, root: usize, g: usize, f: usize) -> bool
-    requires { SomeReadable b.now work.now plan × (g < plan.functions) × (f < plan.functions) }
-    ensures { (w : Program) (y x : Function) → Readable b.now w work.now plan → get_elem? w.functions g ≡ some y → get_elem? w.functions f ≡ some x → result ≡ (is_uncharacterised root (sites_of w) g y && same_name y.name x.name) }
-{
-    is_uncharacterised(work, plan, root, g) && same_names(b, work, plan, g, f)
-}
-
-// Whether an earlier function is listed under the name of the f-th.
-fn is_named_before(b: &[u8], work: &[u32], plan: Plan, root: usize, f: usize) -> bool
-    requires { SomeReadable b.now work.now plan × (f < plan.functions) }
-    ensures { (w : Program) (x : Function) → Readable b.now w work.now plan → get_elem? w.functions f ≡ some x → result ≡ any (λ n. same_name n x.name) (uncharacterised_names root (sites_of w) 0 (take f w.functions)) }
-{
-    for g in 0..f {
-        if is_namesake(b, work, plan, root, g, f) {
-            return true;
-        }
+impl<'b, 'w> Entries<'b, 'w> {
+    // Whether a site uncharacterises the f-th function.
+    fn has_call_in_argument(&self, f: usize) -> bool
+        requires { SomeBody self.now.work.now self.now.plan × (f < self.now.plan.functions) }
+        ensures { (b : List ℕ) (w : Program) (x : Function) → Indexed b w self.now.work.now self.now.plan → get_elem? w.functions f ≡ some x → result ≡ any (uncharacterises (λ s. true) x.name) (sites_of w) }
+    {
+        head_site(self.work, self.plan.functions, f, Kind::Other) < self.plan.sites
     }
-    false
-}
 
-// Whether the f-th function is the first that is listed under its name.
-fn is_newly_uncharacterised(b: &[u8], work: &[u32], plan: Plan, root: usize, f: usize) -> bool
-    requires { SomeReadable b.now work.now plan × (f < plan.functions) }
-    ensures { (w : Program) (x : Function) → Readable b.now w work.now plan → get_elem? w.functions f ≡ some x → result ≡ is_newly_uncharacterised root w f x }
-{
-    is_uncharacterised(work, plan, root, f) && !is_named_before(b, work, plan, root, f)
+    // The same of a function that is not the root.
+    fn is_uncharacterised(&self, root: usize, f: usize) -> bool
+        requires { SomeBody self.now.work.now self.now.plan × (f < self.now.plan.functions) }
+        ensures { (b : List ℕ) (w : Program) (x : Function) → Indexed b w self.now.work.now self.now.plan → get_elem? w.functions f ≡ some x → result ≡ is_uncharacterised root (sites_of w) f x }
+    {
+        f != root && self.has_call_in_argument(f)
+    }
+
+    // Whether the g-th function is listed under the name of the f-th.
+    fn is_namesake(&self, root: usize, g: usize, f: usize) -> bool
+        requires { SomeReads self.now × (g < self.now.plan.functions) × (f < self.now.plan.functions) }
+        ensures { (w : Program) (y x : Function) → Reads self.now w → get_elem? w.functions g ≡ some y → get_elem? w.functions f ≡ some x → result ≡ (is_uncharacterised root (sites_of w) g y && same_name y.name x.name) }
+    {
+        self.is_uncharacterised(root, g) && self.same_names(g, f)
+    }
+
+    // Whether an earlier function is listed under the name of the f-th.
+    fn is_named_before(&self, root: usize, f: usize) -> bool
+        requires { SomeReads self.now × (f < self.now.plan.functions) }
+        ensures { (w : Program) (x : Function) → Reads self.now w → get_elem? w.functions f ≡ some x → result ≡ any (λ n. same_name n x.name) (uncharacterised_names root (sites_of w) 0 (take f w.functions)) }
+    {
+        for g in 0..f {
+            if self.is_namesake(root, g, f) {
+                return true;
+            }
+        }
+        false
+    }
+
+    // Whether the f-th function is the first that is listed under its name.
+    fn is_newly_uncharacterised(&self, root: usize, f: usize) -> bool
+        requires { SomeReads self.now × (f < self.now.plan.functions) }
+        ensures { (w : Program) (x : Function) → Reads self.now w → get_elem? w.functions f ≡ some x → result ≡ is_newly_uncharacterised root w f x }
+    {
+        self.is_uncharacterised(root, f) && !self.is_named_before(root, f)
+    }
 }
 
 // What stands before a name: a flag, as the definition of the line has it (`lead`).
@@ -77,27 +77,27 @@ fn put_lead(out: &mut Writer<'_>, first: bool)
     out.put_bytes(b", ");
 }
 
-// The f-th function, if it is listed; the number of names is counted on.
-fn put_if_uncharacterised(
-    b: &[u8],
-    work: &[u32],
-    plan: Plan,
-    root: usize,
-    f: usize,
-    out: &mut Writer<'_>,
-    count: usize,
-) -> usize
-    requires { SomeReadable b.now work.now plan × (f < plan.functions) × (out.old.filled + 32785 ≤ limit) × (count ≤ f) }
-    ensures written { (w : Program) (x : Function) → Readable b.now w work.now plan → get_elem? w.functions f ≡ some x → out.new ≡ written out.old (uncharacterised_text root w f x (eqb count 0)) }
-    ensures counted { (w : Program) (x : Function) → Readable b.now w work.now plan → get_elem? w.functions f ≡ some x → result ≡ count + uncharacterised_count root w f x }
-    ensures short { (out.new.filled ≤ out.old.filled + 32785) × (result ≤ count + 1) }
-{
-    if !is_newly_uncharacterised(b, work, plan, root, f) {
-        return count;
+impl<'b, 'w> Entries<'b, 'w> {
+    // The f-th function, if it is listed; the number of names is counted on.
+    fn put_if_uncharacterised(
+        &self,
+        root: usize,
+        f: usize,
+        out: &mut Writer<'_>,
+        count: usize,
+    ) -> usize
+        requires { SomeReads self.now × (f < self.now.plan.functions) × (out.old.filled + 32785 ≤ limit) × (count ≤ f) }
+        ensures written { (w : Program) (x : Function) → Reads self.now w → get_elem? w.functions f ≡ some x → out.new ≡ written out.old (uncharacterised_text root w f x (eqb count 0)) }
+        ensures counted { (w : Program) (x : Function) → Reads self.now w → get_elem? w.functions f ≡ some x → result ≡ count + uncharacterised_count root w f x }
+        ensures short { (out.new.filled ≤ out.old.filled + 32785) × (result ≤ count + 1) }
+    {
+        if !self.is_newly_uncharacterised(root, f) {
+            return count;
+        }
+        put_lead(out, count == 0);
+        self.put_name(f, out);
+        count + 1
     }
-    put_lead(out, count == 0);
-    put_name(b, work, plan, f, out);
-    count + 1
 }
 
 // The end of the line, if it has a name.
@@ -111,23 +111,19 @@ fn put_line_end(out: &mut Writer<'_>, count: usize)
     out.put_byte(b'\n');
 }
 
-// The line of uncharacterised functions, each name once; nothing, if there is none. It hands back how many there are.
-pub fn put_uncharacterised(
-    b: &[u8],
-    work: &[u32],
-    plan: Plan,
-    root: usize,
-    out: &mut Writer<'_>,
-) -> usize
-    requires { SomeReadable b.now work.now plan × (out.old.filled + 8192 * 32800 ≤ limit) }
-    ensures written { (w : Program) → Readable b.now w work.now plan → out.new ≡ written out.old (uncharacterised_line (firsts same_name (uncharacterised_names root (sites_of w) 0 w.functions))) }
-    ensures counted { (w : Program) → Readable b.now w work.now plan → result ≡ length (firsts same_name (uncharacterised_names root (sites_of w) 0 w.functions)) }
-    ensures short { (out.new.filled ≤ out.old.filled + 8192 * 32800) × (result ≤ 8192) }
-{
-    let mut count: usize = 0;
-    for f in 0..plan.functions {
-        count = put_if_uncharacterised(b, work, plan, root, f, out, count);
+impl<'b, 'w> Entries<'b, 'w> {
+    // The line of uncharacterised functions, each name once; nothing, if there is none. It hands back how many there are.
+    pub fn put_uncharacterised(&self, root: usize, out: &mut Writer<'_>) -> usize
+        requires { SomeReads self.now × (out.old.filled + 8192 * 32800 ≤ limit) }
+        ensures written { (w : Program) → Reads self.now w → out.new ≡ written out.old (uncharacterised_line (firsts same_name (uncharacterised_names root (sites_of w) 0 w.functions))) }
+        ensures counted { (w : Program) → Reads self.now w → result ≡ length (firsts same_name (uncharacterised_names root (sites_of w) 0 w.functions)) }
+        ensures short { (out.new.filled ≤ out.old.filled + 8192 * 32800) × (result ≤ 8192) }
+    {
+        let mut count: usize = 0;
+        for f in 0..self.plan.functions {
+            count = self.put_if_uncharacterised(root, f, out, count);
+        }
+        put_line_end(out, count);
+        count
     }
-    put_line_end(out, count);
-    count
 }

@@ -24,15 +24,14 @@ ghost use Rattle.text.specs.Fill.{limit};
 ghost use Rattle.text.specs.Written.{written};
 ghost use Rattle.meaning.specs.Report.{uncovered_line};
 ghost use Rattle.report.specs.Emitting.{Readable, SomeReadable};
+ghost use Rattle.report.specs.Entries.{Reads, SomeReads};
 ghost use Rattle.report.specs.Leading.{SomeSite};
 ghost use Rattle.report.specs.Listing.{LastIn};
 ghost use Rattle.report.specs.Uncovered.{uncovered_one, last_uncovered, is_uncovered, uncovered_at, LastPlain, Uncovered};
 
 use crate::AFTER_ALL;
-use crate::alike::same_function;
-use crate::leading::{argument_of, leads};
+use crate::entries::Entries;
 use crate::listing::{Candidate, Listed};
-use crate::sentence::{put_name, sentences_of};
 use cleaning::verdict::verdict_at;
 use cleaning::walks::{is_judged, is_there};
 use compare::same_text;
@@ -63,27 +62,29 @@ fn covers(b: &[u8], work: &mut [u32], plan: Plan, s: usize, i: usize) -> bool
     verdict_at(b, work, plan, pattern, i) != Verdict::Disjoint
 }
 
-// Whether the plain site i is the witness of the sentence s, which is left.
-fn is_witness(work: &[u32], plan: Plan, s: usize, i: usize) -> bool
-    requires { (s < plan.sentences) × (i < plan.sites) × Reaches (room plan) work.now }
-    ensures { result ≡ (is_there (fell_of plan work.now) after_all s && eqb (get_or work.now (witnesses plan + s) 0) (i + 1)) }
-{
-    let k = plan.witnesses() + s;
-    is_there(work, plan, s, AFTER_ALL) && work[k] as usize == i + 1
-}
-
-// Whether it is that of a sentence of the f-th function, which then covers it.
-fn is_witnessed(work: &[u32], plan: Plan, f: usize, i: usize) -> bool
-    requires { SomeBody work.now plan × (f < plan.functions) × (i < plan.sites) }
-    ensures { (b : List ℕ) (w : Program) (x : Function) (y : Held) → Readable b w work.now plan → get_elem? w.functions f ≡ some x → get_elem? (sites_of w) i ≡ some y → result ≡ true → is_uncovered (is_there (fell_of plan work.now) after_all) x (sentences_before f w.functions) y.site.argument ≡ false }
-{
-    let own = sentences_of(work, plan, f);
-    for s in own.start..own.end {
-        if is_witness(work, plan, s, i) {
-            return true;
-        }
+impl<'b, 'w> Entries<'b, 'w> {
+    // Whether the plain site i is the witness of the sentence s, which is left.
+    fn is_witness(&self, s: usize, i: usize) -> bool
+        requires { (s < self.now.plan.sentences) × (i < self.now.plan.sites) × Reaches (room self.now.plan) self.now.work.now }
+        ensures { result ≡ (is_there (fell_of self.now.plan self.now.work.now) after_all s && eqb (get_or self.now.work.now (witnesses self.now.plan + s) 0) (i + 1)) }
+    {
+        let k = self.plan.witnesses() + s;
+        is_there(self.work, self.plan, s, AFTER_ALL) && self.work[k] as usize == i + 1
     }
-    false
+
+    // Whether it is that of a sentence of the f-th function, which then covers it.
+    fn is_witnessed(&self, f: usize, i: usize) -> bool
+        requires { SomeBody self.now.work.now self.now.plan × (f < self.now.plan.functions) × (i < self.now.plan.sites) }
+        ensures { (b : List ℕ) (w : Program) (x : Function) (y : Held) → Readable b w self.now.work.now self.now.plan → get_elem? w.functions f ≡ some x → get_elem? (sites_of w) i ≡ some y → result ≡ true → is_uncovered (is_there (fell_of self.now.plan self.now.work.now) after_all) x (sentences_before f w.functions) y.site.argument ≡ false }
+    {
+        let own = self.sentences_of(f);
+        for s in own.start..own.end {
+            if self.is_witness(s, i) {
+                return true;
+            }
+        }
+        false
+    }
 }
 
 // Whether some sentence of the f-th function covers the argument of the plain site i. The search changes `work`, and of what
@@ -93,7 +94,7 @@ fn any_covers(b: &[u8], work: &mut [u32], plan: Plan, f: usize, i: usize) -> boo
     ensures answers { (w : Program) (x : Function) (y : Held) → Readable b.now w work.old plan → get_elem? w.functions f ≡ some x → get_elem? (sites_of w) i ≡ some y → is_listed true x.name y ≡ true → is_there (fell_of plan work.old) after_all y.sentence ≡ true → is_uncovered (is_there (fell_of plan work.old) after_all) x (sentences_before f w.functions) y.site.argument ≡ not result }
     ensures keeps { Used plan work.old work.new }
 {
-    let own = sentences_of(work, plan, f);
+    let own = Entries { b, work, plan }.sentences_of(f);
     for s in own.start..own.end {
         if covers(b, work, plan, s, i) {
             return true;
@@ -108,75 +109,74 @@ fn is_covered(b: &[u8], work: &mut [u32], plan: Plan, f: usize, i: usize) -> boo
     ensures answers { (w : Program) (x : Function) (y : Held) → Readable b.now w work.old plan → get_elem? w.functions f ≡ some x → get_elem? (sites_of w) i ≡ some y → is_listed true x.name y ≡ true → is_there (fell_of plan work.old) after_all y.sentence ≡ true → is_uncovered (is_there (fell_of plan work.old) after_all) x (sentences_before f w.functions) y.site.argument ≡ not result }
     ensures keeps { Used plan work.old work.new }
 {
-    is_witnessed(work, plan, f, i) || any_covers(b, work, plan, f, i)
+    Entries { b, work, plan }.is_witnessed(f, i) || any_covers(b, work, plan, f, i)
 }
 
-// The line of the argument of the plain site i, a restriction of the f-th function.
-fn put_line(b: &[u8], work: &[u32], plan: Plan, f: usize, i: usize, out: &mut Writer<'_>)
-    requires { SomeSite b.now work.now plan i × (f < plan.functions) × (out.old.filled + 80000 ≤ limit) }
-    ensures written { (w : Program) (x : Function) (y : Held) → Readable b.now w work.now plan → get_elem? w.functions f ≡ some x → get_elem? (sites_of w) i ≡ some y → is_listed true x.name y ≡ true → out.new ≡ written out.old (uncovered_line (uncovered_one x y)) }
-    ensures short { (out.old.filled < out.new.filled) × (out.new.filled ≤ out.old.filled + 80000) }
-{
-    out.put_bytes(b"  ");
-    put_name(b, work, plan, f, out);
-    out.put_bytes(b" <- ");
-    let q = argument_of(b, work, plan, i);
-    out.format_terms(&b[q..]);
-    out.put_byte(b'\n');
-}
+impl<'b, 'w> Entries<'b, 'w> {
+    // The line of the argument of the plain site i, a restriction of the f-th function.
+    fn put_line(&self, f: usize, i: usize, out: &mut Writer<'_>)
+        requires { SomeSite self.now.b.now self.now.work.now self.now.plan i × (f < self.now.plan.functions) × (out.old.filled + 80000 ≤ limit) }
+        ensures written { (w : Program) (x : Function) (y : Held) → Reads self.now w → get_elem? w.functions f ≡ some x → get_elem? (sites_of w) i ≡ some y → is_listed true x.name y ≡ true → out.new ≡ written out.old (uncovered_line (uncovered_one x y)) }
+        ensures short { (out.old.filled < out.new.filled) × (out.new.filled ≤ out.old.filled + 80000) }
+    {
+        out.put_bytes(b"  ");
+        self.put_name(f, out);
+        out.put_bytes(b" <- ");
+        let q = self.argument_of(i);
+        out.format_terms(&self.b[q..]);
+        out.put_byte(b'\n');
+    }
 
-// Whether the arguments of the plain sites i and j have the same text.
-fn same_argument(b: &[u8], work: &[u32], plan: Plan, i: usize, j: usize) -> bool
-    requires { SomeSite b.now work.now plan i × SomeSite b.now work.now plan j }
-    ensures { (w : Program) (f g : ℕ) (x u : Function) (y v : Held) → Readable b.now w work.now plan → get_elem? w.functions f ≡ some x → get_elem? (sites_of w) i ≡ some y → is_listed true x.name y ≡ true → get_elem? w.functions g ≡ some u → get_elem? (sites_of w) j ≡ some v → is_listed true u.name v ≡ true → result ≡ eq_bytes (format_terms y.site.argument) (format_terms v.site.argument) }
-{
-    let p = argument_of(b, work, plan, i);
-    let q = argument_of(b, work, plan, j);
-    same_text(&b[p..], &b[q..])
-}
+    // Whether the arguments of the plain sites i and j have the same text.
+    fn same_argument(&self, i: usize, j: usize) -> bool
+        requires { SomeSite self.now.b.now self.now.work.now self.now.plan i × SomeSite self.now.b.now self.now.work.now self.now.plan j }
+        ensures { (w : Program) (f g : ℕ) (x u : Function) (y v : Held) → Reads self.now w → get_elem? w.functions f ≡ some x → get_elem? (sites_of w) i ≡ some y → is_listed true x.name y ≡ true → get_elem? w.functions g ≡ some u → get_elem? (sites_of w) j ≡ some v → is_listed true u.name v ≡ true → result ≡ eq_bytes (format_terms y.site.argument) (format_terms v.site.argument) }
+    {
+        let p = self.argument_of(i);
+        let q = self.argument_of(j);
+        same_text(&self.b[p..], &self.b[q..])
+    }
 
-// Whether the candidate, the plain site i of the f-th function, repeats the last one.
-fn repeats_last(b: &[u8], work: &[u32], plan: Plan, f: usize, i: usize, listed: Listed) -> bool
-    requires { SomeSite b.now work.now plan i × (f < plan.functions) × LastIn listed.last f plan.sites × ((w : Program) → Readable b.now w work.now plan → LastPlain w listed.last) }
-    ensures { (w : Program) (x : Function) (y : Held) → Readable b.now w work.now plan → get_elem? w.functions f ≡ some x → get_elem? (sites_of w) i ≡ some y → is_listed true x.name y ≡ true → result ≡ any (λ z. same_uncovered z (uncovered_one x y)) (last_uncovered w listed.last) }
-{
-    match listed.last {
-        None => false,
-        Some(last) => {
-            same_function(b, work, plan, last.function, f)
-                && same_argument(b, work, plan, last.item, i)
+    // Whether the candidate, the plain site i of the f-th function, repeats the last one.
+    fn repeats_argument(&self, f: usize, i: usize, listed: Listed) -> bool
+        requires { SomeSite self.now.b.now self.now.work.now self.now.plan i × (f < self.now.plan.functions) × LastIn listed.last f self.now.plan.sites × ((w : Program) → Reads self.now w → LastPlain w listed.last) }
+        ensures { (w : Program) (x : Function) (y : Held) → Reads self.now w → get_elem? w.functions f ≡ some x → get_elem? (sites_of w) i ≡ some y → is_listed true x.name y ≡ true → result ≡ any (λ z. same_uncovered z (uncovered_one x y)) (last_uncovered w listed.last) }
+    {
+        match listed.last {
+            None => false,
+            Some(last) => {
+                self.same_function(last.function, f) && self.same_argument(last.item, i)
+            }
         }
     }
-}
 
-// Tells the candidate: a line, unless it repeats the last one.
-fn put_candidate(
-    b: &[u8],
-    work: &[u32],
-    plan: Plan,
-    f: usize,
-    i: usize,
-    out: &mut Writer<'_>,
-    listed: Listed,
-) -> Listed
-    requires { SomeSite b.now work.now plan i × (f < plan.functions) × LastIn listed.last f plan.sites × ((w : Program) → Readable b.now w work.now plan → LastPlain w listed.last) × (out.old.filled + 80000 ≤ limit) × (listed.count ≤ out.old.filled) }
-    ensures told { (w : Program) (x : Function) (y : Held) → Readable b.now w work.now plan → get_elem? w.functions f ≡ some x → get_elem? (sites_of w) i ≡ some y → is_listed true x.name y ≡ true → Uncovered w (uncovered_one x y ∷ []) out.old listed.count listed.last out.new result.count result.last }
-    ensures short { (out.new.filled ≤ out.old.filled + 80000) × (result.count ≤ out.new.filled) × LastIn result.last f plan.sites }
-{
-    let last = Some(Candidate {
-        function: f,
-        item: i,
-    });
-    if repeats_last(b, work, plan, f, i, listed) {
-        return Listed {
-            count: listed.count,
+    // Tells the candidate: a line, unless it repeats the last one.
+    fn put_uncovered_argument(
+        &self,
+        f: usize,
+        i: usize,
+        out: &mut Writer<'_>,
+        listed: Listed,
+    ) -> Listed
+        requires { SomeSite self.now.b.now self.now.work.now self.now.plan i × (f < self.now.plan.functions) × LastIn listed.last f self.now.plan.sites × ((w : Program) → Reads self.now w → LastPlain w listed.last) × (out.old.filled + 80000 ≤ limit) × (listed.count ≤ out.old.filled) }
+        ensures told { (w : Program) (x : Function) (y : Held) → Reads self.now w → get_elem? w.functions f ≡ some x → get_elem? (sites_of w) i ≡ some y → is_listed true x.name y ≡ true → Uncovered w (uncovered_one x y ∷ []) out.old listed.count listed.last out.new result.count result.last }
+        ensures short { (out.new.filled ≤ out.old.filled + 80000) × (result.count ≤ out.new.filled) × LastIn result.last f self.now.plan.sites }
+    {
+        let last = Some(Candidate {
+            function: f,
+            item: i,
+        });
+        if self.repeats_argument(f, i, listed) {
+            return Listed {
+                count: listed.count,
+                last,
+            };
+        }
+        self.put_line(f, i, out);
+        Listed {
+            count: listed.count + 1,
             last,
-        };
-    }
-    put_line(b, work, plan, f, i, out);
-    Listed {
-        count: listed.count + 1,
-        last,
+        }
     }
 }
 
@@ -195,10 +195,11 @@ fn put_if_uncovered(
     ensures short { (out.new.filled ≤ out.old.filled + 80000) × (result.count ≤ out.new.filled) × LastIn result.last f plan.sites }
     ensures keeps { Used plan work.old work.new }
 {
-    if !leads(work, plan, i, AFTER_ALL) || is_covered(b, work, plan, f, i) {
+    let leading = Entries { b, work, plan }.leads(i, AFTER_ALL);
+    if !leading || is_covered(b, work, plan, f, i) {
         return listed;
     }
-    put_candidate(b, work, plan, f, i, out, listed)
+    Entries { b, work, plan }.put_uncovered_argument(f, i, out, listed)
 }
 
 // Tells the uncovered restrictions of the f-th function.

@@ -1,6 +1,0 @@
--- `report::decided::is_undecided` meets its contract. Assumes nothing.
-use Rattle.report.proofs.OpenNotes.{open_read}
-use Rattle.report.proofs.decided.is_undecided.Goals as goal
-
-pub returns : goal.returns
-returns c = let a = c.args in open_read a.plan a.work.now c.lines.result a.s c.lines.ensures

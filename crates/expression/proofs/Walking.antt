@@ -16,8 +16,10 @@ use Rattle.image.proofs.Readings.{one-reading}
 use Rattle.overlap.specs.Steps.{is_overlap}
 use Rattle.overlap.specs.Way.{End, Next, Fails, fails-none, fails_more}
 use Rattle.rows.proofs.Readings.{part, at_part, mark_in, place_after, after_term, is-empty, is_not_empty}
-use Rattle.text.specs.Fill.{Emitted, limit}
-use Rattle.text.proofs.Fill.{emitted-nothing, emitted-append}
+use Rattle.text.specs.Fill.{limit}
+use Rattle.text.specs.Written.{written}
+use Rattle.text.specs.declared.writer.Writer.{Writer}
+use Rattle.text.proofs.Written.{written-nothing, both}
 use Rattle.expression.specs.declared.walk.Ends.{Ends}
 use Rattle.expression.specs.declared.walk.Step.{Step}
 use Rattle.expression.specs.Free.{first_bytes}
@@ -28,18 +30,18 @@ use Rattle.expression.proofs.Freeing.{rest_of, rest-fits, front_fits}
 -- ---- the ends of a split
 
 -- The ends before `right` did not meet the rest r: their first terms have been written, and what follows makes up the whole.
-pub record Absorbing (b old : List ℕ) (at other fuel : ℕ) (swapped : Bool) (r : Terms) (whole : List ℕ) (right f place : ℕ) (new : List ℕ) : Type 0 where
+pub record Absorbing (b : List ℕ) (first : Writer) (other fuel : ℕ) (swapped : Bool) (r : Terms) (whole : List ℕ) (right f : ℕ) (now : Writer) : Type 0 where
   pub there : TermsAt Mode.pattern (drop right b)
   pub text : List ℕ
-  pub emitted : Emitted old at text place new
+  pub wrote : now ≡ written first text
   pub is : whole ≡ text ++ split_bytes swapped f r there.terms
   pub further : other ≤ right
   pub less : f ≤ fuel
 
-pub absorbing-first : (b old : List ℕ) (at other fuel : ℕ) (swapped : Bool) (r : Terms) (y : TermsAt Mode.pattern (drop other b)) → Absorbing b old at other fuel swapped r (split_bytes swapped fuel r y.terms) other fuel at old
-absorbing-first b old at other fuel swapped r y = record { there = y; text = []; emitted = emitted-nothing old at; is = refl; further = omega arith; less = omega arith }
+pub absorbing-first : (b : List ℕ) (first : Writer) (other fuel : ℕ) (swapped : Bool) (r : Terms) (y : TermsAt Mode.pattern (drop other b)) → Absorbing b first other fuel swapped r (split_bytes swapped fuel r y.terms) other fuel first
+absorbing-first b first other fuel swapped r y = record { there = y; text = []; wrote = written-nothing first; is = refl; further = omega arith; less = omega arith }
 
-module _ {b old new whole : List ℕ} {at other fuel right f place : ℕ} {swapped : Bool} {r : Terms} (w : Absorbing b old at other fuel swapped r whole right f place new)
+module _ {b whole : List ℕ} {first now : Writer} {other fuel right f : ℕ} {swapped : Bool} {r : Terms} (w : Absorbing b first other fuel swapped r whole right f now)
     (q : Found) (asked : q ≡ sequence f r w.there.terms) where
   abbrev o : Terms
   o = w.there.terms
@@ -58,15 +60,15 @@ module _ {b old new whole : List ℕ} {at other fuel right f place : ℕ} {swapp
       takes : split_bytes swapped f r o ≡ first_bytes o ++ split_bytes swapped q.fuel r (tail o)
       takes = split_takes swapped f r o q asked h (is_not_empty (at_part b right w.there) m)
 
-      pub absorbing-short : at + length whole ≤ limit → place + length (first_bytes o) ≤ limit
-      absorbing-short l = front_fits place (first_bytes o) (split_bytes swapped q.fuel r (tail o)) takes (rest-fits w.text (split_bytes swapped f r o) w.emitted w.is l)
+      pub absorbing-short : first.filled + length whole ≤ limit → now.filled + length (first_bytes o) ≤ limit
+      absorbing-short l = front_fits now.filled (first_bytes o) (split_bytes swapped q.fuel r (tail o)) takes (rest-fits first w.text (split_bytes swapped f r o) w.wrote w.is l)
 
-      pub absorbing-next : (n p : ℕ) (out : List ℕ) → Passes (part b right) n (put_terms (tail o) w.there.rest) → Emitted new place (first_bytes o) p out
-          → Absorbing b old at other fuel swapped r whole (right + n) q.fuel p out
-      absorbing-next n p out k e = record {
+      pub absorbing-next : (n : ℕ) (after : Writer) → Passes (part b right) n (put_terms (tail o) w.there.rest) → after ≡ written now (first_bytes o)
+          → Absorbing b first other fuel swapped r whole (right + n) q.fuel after
+      absorbing-next n after k e = record {
         there = after_term b right n w.there k;
         text = w.text ++ first_bytes o;
-        emitted = emitted-append w.text (first_bytes o) w.emitted e;
+        wrote = both first w.text (first_bytes o) w.wrote e;
         is = rest_of w.text (first_bytes o) (split_bytes swapped q.fuel r (tail o)) w.is takes;
         further = omega (arith, w.further);
         less = omega (arith, w.less, fuel-falls f r o, ap (λ (z : Found). z.fuel) asked);
@@ -75,9 +77,9 @@ module _ {b old new whole : List ℕ} {at other fuel right f place : ℕ} {swapp
 -- ---- an end that is known
 
 -- The terms before `right` have been written, and the ends from there on fail up to the one that is taken.
-pub record Following (b old : List ℕ) (at other fuel : ℕ) (swapped : Bool) (r : Terms) (whole : List ℕ) (e : End) (right place : ℕ) (new : List ℕ) : Type 0 where
+pub record Following (b : List ℕ) (first : Writer) (other fuel : ℕ) (swapped : Bool) (r : Terms) (whole : List ℕ) (e : End) (right : ℕ) (now : Writer) : Type 0 where
   pub f : ℕ
-  pub absorbing : Absorbing b old at other fuel swapped r whole right f place new
+  pub absorbing : Absorbing b first other fuel swapped r whole right f now
   pub fails : Fails b r e f right
 
 -- Which end it is: the place tells.
@@ -110,25 +112,25 @@ next-same {b} {i} {k} {l} x y =
 same_at : (b : List ℕ) (i k : ℕ) → i ≡ k → (x : TermsAt Mode.pattern (drop i b)) (y : TermsAt Mode.pattern (drop k b)) → x.terms ≡ y.terms
 same_at b i k e = subst (λ (n : ℕ). (x : TermsAt Mode.pattern (drop i b)) (y : TermsAt Mode.pattern (drop n b)) → x.terms ≡ y.terms) e (λ x y. (one-reading x y).0)
 
-pub following_first : (b old : List ℕ) (at other fuel : ℕ) (swapped : Bool) (x : Terms) (y : TermsAt Mode.pattern (drop other b)) (e : End) → Fails b x e fuel other
-    → Following b old at other fuel swapped x (split_bytes swapped fuel x y.terms) e other at old
-following_first b old at other fuel swapped x y e c = record { f = fuel; absorbing = absorbing-first b old at other fuel swapped x y; fails = c }
+pub following_first : (b : List ℕ) (first : Writer) (other fuel : ℕ) (swapped : Bool) (x : Terms) (y : TermsAt Mode.pattern (drop other b)) (e : End) → Fails b x e fuel other
+    → Following b first other fuel swapped x (split_bytes swapped fuel x y.terms) e other first
+following_first b first other fuel swapped x y e c = record { f = fuel; absorbing = absorbing-first b first other fuel swapped x y; fails = c }
 
-module _ {b old new whole : List ℕ} {at other fuel right place : ℕ} {swapped : Bool} {r : Terms} {e : End} (s : Following b old at other fuel swapped r whole e right place new) where
-  abbrev w : Absorbing b old at other fuel swapped r whole right s.f place new
+module _ {b whole : List ℕ} {first now : Writer} {other fuel right : ℕ} {swapped : Bool} {r : Terms} {e : End} (s : Following b first other fuel swapped r whole e right now) where
+  abbrev w : Absorbing b first other fuel swapped r whole right s.f now
   w = s.absorbing
 
   abbrev end : Terms
   end = s.absorbing.there.terms
 
   -- It has come to the end that is taken.
-  pub following_ends : right ≡ e.place → (q : TermsAt Mode.pattern (drop e.place b)) → is_overlap (sequence e.fuel r q.terms).verdict ≡ true → Followed b old at other whole swapped r e place new
+  pub following_ends : right ≡ e.place → (q : TermsAt Mode.pattern (drop e.place b)) → is_overlap (sequence e.fuel r q.terms).verdict ≡ true → Followed b first other whole swapped r e now
   following_ends z q m =
       let g = fails-here s.fails z in
       let t = same_at b right e.place z w.there q in
       record {
         text = w.text;
-        emitted = w.emitted;
+        wrote = w.wrote;
         there = q;
         is = absorbing-meets w (sequence s.f r end) refl (ap₂ (λ (f : ℕ) (u : Terms). is_overlap (sequence f r u).verdict) g t ∙ m) ∙ ap₂ (λ (f : ℕ) (u : Terms). w.text ++ meet_bytes swapped f r u) g t;
         further = omega (arith, w.further, z);
@@ -147,14 +149,14 @@ module _ {b old new whole : List ℕ} {at other fuel right place : ℕ} {swapped
     pub following_more : get_or (part b right) 0 0 ≡ 15 → ⊥
     following_more m = failed.more (sym (mark_in b right) ∙ m)
 
-    pub following_short : at + length whole ≤ limit → place + length (first_bytes end) ≤ limit
+    pub following_short : first.filled + length whole ≤ limit → now.filled + length (first_bytes end) ≤ limit
     following_short l = absorbing-short w (sequence s.f r end) refl apart following_more l
 
-    pub following_next : (n p : ℕ) (out : List ℕ) → right + n ≤ length b → Passes (part b right) n (put_terms (tail end) w.there.rest) → Emitted new place (first_bytes end) p out
-        → Following b old at other fuel swapped r whole e (right + n) p out
-    following_next n p out l k h = record {
+    pub following_next : (n : ℕ) (after : Writer) → right + n ≤ length b → Passes (part b right) n (put_terms (tail end) w.there.rest) → after ≡ written now (first_bytes end)
+        → Following b first other fuel swapped r whole e (right + n) after
+    following_next n after l k h = record {
       f = (sequence s.f r end).fuel;
-      absorbing = absorbing-next w (sequence s.f r end) refl apart following_more n p out k h;
+      absorbing = absorbing-next w (sequence s.f r end) refl apart following_more n after k h;
       fails =
           subst (λ (i : ℕ). Fails b r e (sequence s.f r end).fuel i) (next-same failed.beyond (record { there = w.there; is = place_after b right n w.there k; within = l }))
           (subst (λ (u : Terms). Fails b r e (sequence s.f r u).fuel failed.next) same failed.rest);
@@ -162,20 +164,20 @@ module _ {b old new whole : List ℕ} {at other fuel right place : ℕ} {swapped
 
 -- ---- steps in a row
 
-pub stepped_first : (b old : List ℕ) (at left right fuel : ℕ) (ends : Ends) (swapped : Bool) (x : TermsAt Mode.pattern (drop left b)) (y : TermsAt Mode.pattern (drop right b))
-    → Stepped b old at (left + right) fuel (meet_bytes swapped fuel x.terms y.terms) (record { left = left; right = right; swapped = swapped; fuel = fuel; place = at; ends = ends }) old
-stepped_first b old at left right fuel ends swapped x y = record { text = []; emitted = emitted-nothing old at; first = x; second = y; is = refl; further = omega arith; less = omega arith }
+pub stepped_first : (b : List ℕ) (before : Writer) (left right fuel : ℕ) (ends : Ends) (swapped : Bool) (x : TermsAt Mode.pattern (drop left b)) (y : TermsAt Mode.pattern (drop right b))
+    → Stepped b before (left + right) fuel (meet_bytes swapped fuel x.terms y.terms) (record { left = left; right = right; swapped = swapped; fuel = fuel; ends = ends }) before
+stepped_first b before left right fuel ends swapped x y = record { text = []; wrote = written-nothing before; first = x; second = y; is = refl; further = omega arith; less = omega arith }
 
 -- The same step, of a whole by another name.
-pub stepped_as : {b old new whole other : List ℕ} {at from behind fuel : ℕ} {r : Step} → whole ≡ other → from ≤ behind → Stepped b old at behind fuel other r new → Stepped b old at from fuel whole r new
-stepped_as e l s = record { text = s.text; emitted = s.emitted; first = s.first; second = s.second; is = e ∙ s.is; further = omega (arith, l, s.further); less = s.less }
+pub stepped_as : {b whole other : List ℕ} {before after : Writer} {from behind fuel : ℕ} {r : Step} → whole ≡ other → from ≤ behind → Stepped b before behind fuel other r after → Stepped b before from fuel whole r after
+stepped_as e l s = record { text = s.text; wrote = s.wrote; first = s.first; second = s.second; is = e ∙ s.is; further = omega (arith, l, s.further); less = s.less }
 
 -- A step, and then another from where it led.
-pub stepped_on : {b old mid new whole : List ℕ} {at from fuel f : ℕ} {r t : Step} (s : Stepped b old at from fuel whole r mid) → r.fuel ≡ suc f
-    → Stepped b mid r.place (r.left + r.right) f (meet_bytes r.swapped (suc f) s.first.terms s.second.terms) t new → Stepped b old at from fuel whole t new
-stepped_on {r = r} {t = t} s e n = record {
+pub stepped_on : {b whole : List ℕ} {before mid after : Writer} {from fuel f : ℕ} {r t : Step} (s : Stepped b before from fuel whole r mid) → r.fuel ≡ suc f
+    → Stepped b mid (r.left + r.right) f (meet_bytes r.swapped (suc f) s.first.terms s.second.terms) t after → Stepped b before from fuel whole t after
+stepped_on {before = before} {r = r} {t = t} s e n = record {
   text = s.text ++ n.text;
-  emitted = emitted-append s.text n.text s.emitted n.emitted;
+  wrote = both before s.text n.text s.wrote n.wrote;
   first = n.first;
   second = n.second;
   is =
@@ -188,8 +190,8 @@ stepped_on {r = r} {t = t} s e n = record {
 }
 
 -- What is left fits, since the whole does.
-pub stepped_short : {b old new whole : List ℕ} {at from fuel f : ℕ} {r : Step} (s : Stepped b old at from fuel whole r new) → r.fuel ≡ suc f → at + length whole ≤ limit
-    → r.place + length (meet_bytes r.swapped (suc f) s.first.terms s.second.terms) ≤ limit
-stepped_short {r = r} s e l =
-    let k = rest-fits s.text (meet_bytes r.swapped r.fuel s.first.terms s.second.terms) s.emitted s.is l in
+pub stepped_short : {b whole : List ℕ} {before after : Writer} {from fuel f : ℕ} {r : Step} (s : Stepped b before from fuel whole r after) → r.fuel ≡ suc f → before.filled + length whole ≤ limit
+    → after.filled + length (meet_bytes r.swapped (suc f) s.first.terms s.second.terms) ≤ limit
+stepped_short {before = before} {r = r} s e l =
+    let k = rest-fits before s.text (meet_bytes r.swapped r.fuel s.first.terms s.second.terms) s.wrote s.is l in
     omega (arith, k, ap (λ (k : ℕ). length (meet_bytes r.swapped k s.first.terms s.second.terms)) e)

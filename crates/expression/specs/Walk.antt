@@ -8,7 +8,9 @@ use Rattle.patterns.specs.Search.{One, ends}
 use Rattle.patterns.specs.Meet.{meet_splits, meet_of_terms, meet_sequence}
 use Rattle.rows.specs.Parts.{HeadAt}
 use Rattle.overlap.specs.Way.{End, Taken, Way, end_at, in_turn}
-use Rattle.text.specs.Fill.{Emitted, limit}
+use Rattle.text.specs.Fill.{limit}
+use Rattle.text.specs.Written.{written}
+use Rattle.text.specs.declared.writer.Writer.{Writer}
 use Rattle.expression.specs.declared.walk.Step.{Step}
 
 abbrev pub meet_bytes : Bool → ℕ → Terms → Terms → List ℕ
@@ -38,10 +40,10 @@ pub record Heads (s t : List ℕ) (swapped : Bool) (at : ℕ) : Type 0 where
   pub second : HeadAt t
   pub short : at + length (head_bytes swapped first.head second.head) ≤ limit
 
--- Some of the bytes have been written from `at` on; the patterns that are left, no earlier, meet in the rest.
-pub record Stepped (b old : List ℕ) (at from fuel : ℕ) (whole : List ℕ) (r : Step) (new : List ℕ) : Type 0 where
+-- Some of the bytes have been written; the patterns that are left, no earlier, meet in the rest.
+pub record Stepped (b : List ℕ) (before : Writer) (from fuel : ℕ) (whole : List ℕ) (r : Step) (after : Writer) : Type 0 where
   pub text : List ℕ
-  pub emitted : Emitted old at text r.place new
+  pub wrote : after ≡ written before text
   pub first : TermsAt Mode.pattern (drop r.left b)
   pub second : TermsAt Mode.pattern (drop r.right b)
   pub is : whole ≡ text ++ meet_bytes r.swapped r.fuel first.terms second.terms
@@ -74,9 +76,9 @@ pub record Follows (b : List ℕ) (other end at : ℕ) : Type 0 where
   pub taken : Taken b rest other fuel (end_of end left)
 
 -- The terms before the end have been written; what meets there makes up the rest.
-pub record Followed (b old : List ℕ) (at other : ℕ) (whole : List ℕ) (swapped : Bool) (p : Terms) (e : End) (place : ℕ) (new : List ℕ) : Type 0 where
+pub record Followed (b : List ℕ) (before : Writer) (other : ℕ) (whole : List ℕ) (swapped : Bool) (p : Terms) (e : End) (after : Writer) : Type 0 where
   pub text : List ℕ
-  pub emitted : Emitted old at text place new
+  pub wrote : after ≡ written before text
   pub there : TermsAt Mode.pattern (drop e.place b)
   pub is : whole ≡ text ++ meet_bytes swapped e.fuel p there.terms
   pub further : other ≤ e.place

@@ -13,6 +13,7 @@ ghost use Rattle.patterns.specs.Meet.{meet};
 ghost use Rattle.text.specs.Fill.{Emitted};
 
 use crate::walk::{Ends, Step};
+use text::writer::Writer;
 
 // What the patterns at p and q of a body meet in, along the first successful split: written as far as it fits, and its length.
 pub fn put_meeting(b: &[u8], p: usize, q: usize, out: &mut [u8], room: &mut [u32]) -> usize
@@ -24,8 +25,12 @@ pub fn put_meeting(b: &[u8], p: usize, q: usize, out: &mut [u8], room: &mut [u32
         right: q,
         swapped: false,
         fuel: 4096,
-        place: 0,
         ends: Ends { next: 0, known: 0 },
     };
-    walk::meet(b, start, out, room)
+    let mut w = Writer {
+        text: out,
+        filled: 0,
+    };
+    walk::meet(b, start, &mut w, room);
+    w.filled
 }

@@ -1,7 +1,10 @@
 -- `expression::put_meeting` meets its contract. Assumes nothing.
 use native.Mathlib.Omega.{arith}
 use mathlib.Core.Bool.{false}
+use mathlib.Core.List.{[]}
+use Rattle.patterns.specs.Marks.{put_expression}
 use Rattle.patterns.specs.Meet.{meet}
+use Rattle.text.proofs.Written.{lent}
 use Rattle.expression.proofs.Bound.{meeting_short}
 use Rattle.expression.proofs.put_meeting.Goals as goal
 
@@ -12,4 +15,4 @@ meet-requires c =
 
 pub returns : goal.returns
 unfolding meet
-returns c = λ x y. c.meet.ensures.writes x y
+returns c = λ x y. lent _ (put_expression (meet x.terms y.terms) []) (c.meet.ensures.writes x y) search

@@ -21,7 +21,7 @@ use Rattle.program.specs.Bytes.{put32, put_span}
 use Rattle.patterns.specs.Marks.{zero_span}
 use Rattle.patterns.specs.Search.{start}
 use Rattle.rows.proofs.Heads.{bracket-at}
-use Rattle.text.proofs.Fill.{emitted-same, emitted-append}
+use Rattle.text.proofs.Written.{both, same, count}
 use Rattle.expression.proofs.Heads.{both-brackets, both_brackets_long}
 use Rattle.expression.proofs.walk.+advance_meet_put_heads.Goals as goal
 use Rattle.expression.proofs.walk.+advance_meet_put_heads.Goals.{put_heads-then-b-step-eq7+else-b-step-eq7-2, put_heads-else-b-step-eq7}
@@ -141,8 +141,8 @@ advance-returns-then-b-step-eq6-2 t c = record {
   keeps = c.absorb-then-b-step-eq6-2.ensures.keeps;
 }
 
-pub advance-put_heads-place-requires : goal.advance-put_heads-place-requires
-advance-put_heads-place-requires t c =
+pub advance-put_heads-requires : goal.advance-put_heads-requires
+advance-put_heads-requires t c =
     let b = c.args.b.now in
     let p = c.requires in
     let x = p.0.first in
@@ -154,7 +154,7 @@ advance-put_heads-place-requires t c =
         record {
           first = u;
           second = v;
-          short = front_fits c.args.step.place (head_bytes c.args.step.swapped u.head v.head) (meet_bytes c.args.step.swapped c.args.step.fuel (tail x.terms) (tail y.terms)) (heads-first b c.args.step.left c.args.step.right c.args.step.swapped c.args.step.fuel x y p.1 c.if-b-step-eq6.false p.2 c.if-b-step-eq6-2.false) p.0.short;
+          short = front_fits c.args.out.now.filled (head_bytes c.args.step.swapped u.head v.head) (meet_bytes c.args.step.swapped c.args.step.fuel (tail x.terms) (tail y.terms)) (heads-first b c.args.step.left c.args.step.right c.args.step.swapped c.args.step.fuel x y p.1 c.if-b-step-eq6.false p.2 c.if-b-step-eq6-2.false) p.0.short;
         },
         p.3,
         p.6,
@@ -181,7 +181,7 @@ advance-returns t c =
           let v = right-head b c.args.step.left c.args.step.right c.args.step.swapped c.args.step.fuel x y p.1 c.if-b-step-eq6.false p.2 c.if-b-step-eq6-2.false in
           record {
             text = head_bytes c.args.step.swapped u.head v.head;
-            emitted = c.put_heads-place.ensures.writes u v;
+            wrote = c.put_heads.ensures.writes u v;
             first = after_term b c.args.step.left c.term_len.result x (c.term_len.ensures Mode.pattern (at_part b c.args.step.left x));
             second = after_term b c.args.step.right c.term_len-2.result y (c.term_len-2.ensures Mode.pattern (at_part b c.args.step.right y));
             is = heads-first b c.args.step.left c.args.step.right c.args.step.swapped c.args.step.fuel x y p.1 c.if-b-step-eq6.false p.2 c.if-b-step-eq6-2.false;
@@ -193,7 +193,7 @@ advance-returns t c =
           way = way_at_heads c.args.step.fuel c.requires.5 refl c.if-b-step-eq6.false c.if-b-step-eq6-2.false next the_next;
           is = refl;
         },
-        c.put_heads-place.ensures.keeps,
+        c.put_heads.ensures.keeps,
       );
     }
 
@@ -202,56 +202,49 @@ meet-find_way-known-requires t c = let p = c.requires in (p.0.first, p.0.second,
 
 pub meet-loop-s-init : goal.meet-loop-s-init
 meet-loop-s-init t c = (
-  refl,
   kept_same c.args.start.ends.next c.find_way-known.new.room,
   c.find_way-known.ensures.finds.0,
   omega (arith, c.find_way-known.ensures.finds.1, c.find_way-known.ensures.keeps.length),
   omega arith,
-  λ p q. stepped_first c.args.b.now c.args.out.now c.args.start.place c.args.start.left c.args.start.right c.args.start.fuel (record { next = c.args.start.ends.next; known = c.find_way-known.result }) c.args.start.swapped p q,
+  λ p q. stepped_first c.args.b.now c.args.out.now c.args.start.left c.args.start.right c.args.start.fuel (record { next = c.args.start.ends.next; known = c.find_way-known.result }) c.args.start.swapped p q,
 )
 
 pub meet-bounds-b-s : goal.meet-bounds-b-s
-meet-bounds-b-s t c = inside c.args.b.now c.loop-s.s.left ((c.loop-s.invariant.5 c.requires.0.first c.requires.0.second)).first
-
-pub meet-shape_of-out-then-b-s-eq15 : goal.meet-shape_of-out-then-b-s-eq15
-meet-shape_of-out-then-b-s-eq15 t c = c.loop-s.invariant.0
+meet-bounds-b-s t c = inside c.args.b.now c.loop-s.s.left ((c.loop-s.invariant.4 c.requires.0.first c.requires.0.second)).first
 
 pub meet-shape_of-room-then-b-s-eq15 : goal.meet-shape_of-room-then-b-s-eq15
 meet-shape_of-room-then-b-s-eq15 t c =
-    let kept : Kept c.args.start.ends.next c.args.room.now c.loop-s.room = kept_then c.find_way-known.ensures.keeps c.loop-s.invariant.1 in
+    let kept : Kept c.args.start.ends.next c.args.room.now c.loop-s.room = kept_then c.find_way-known.ensures.keeps c.loop-s.invariant.0 in
     (kept).length
 
 pub meet-returns-then-b-s-eq15 : goal.meet-returns-then-b-s-eq15
 meet-returns-then-b-s-eq15 t c =
-    let kept : Kept c.args.start.ends.next c.args.room.now c.loop-s.room = kept_then c.find_way-known.ensures.keeps c.loop-s.invariant.1 in
+    let kept : Kept c.args.start.ends.next c.args.room.now c.loop-s.room = kept_then c.find_way-known.ensures.keeps c.loop-s.invariant.0 in
     record {
       writes = λ p q.
-          let s = c.loop-s.invariant.5 p q in
+          let s = c.loop-s.invariant.4 p q in
           let e = one_less c.loop-s.s.fuel c.loop-s-test.true in
-          whole-written s.text s.emitted s.is
+          whole-written c.args.out.now s.text s.wrote s.is
           (ap (λ (k : ℕ). meet_bytes c.loop-s.s.swapped k s.first.terms s.second.terms) e ∙ left_closed c.args.b.now c.loop-s.s.left c.loop-s.s.right c.loop-s.s.swapped (c.loop-s.s.fuel - 1) s.first s.second c.if-b-s-eq15.true);
       keeps = kept;
     }
 
 pub meet-bounds-b-s-in-loop-s : goal.meet-bounds-b-s-in-loop-s
-meet-bounds-b-s-in-loop-s t c = inside c.args.b.now c.loop-s.s.right ((c.loop-s.invariant.5 c.requires.0.first c.requires.0.second)).second
-
-pub meet-shape_of-out-then-b-s-eq15-2 : goal.meet-shape_of-out-then-b-s-eq15-2
-meet-shape_of-out-then-b-s-eq15-2 t c = c.loop-s.invariant.0
+meet-bounds-b-s-in-loop-s t c = inside c.args.b.now c.loop-s.s.right ((c.loop-s.invariant.4 c.requires.0.first c.requires.0.second)).second
 
 pub meet-shape_of-room-then-b-s-eq15-2 : goal.meet-shape_of-room-then-b-s-eq15-2
 meet-shape_of-room-then-b-s-eq15-2 t c =
-    let kept : Kept c.args.start.ends.next c.args.room.now c.loop-s.room = kept_then c.find_way-known.ensures.keeps c.loop-s.invariant.1 in
+    let kept : Kept c.args.start.ends.next c.args.room.now c.loop-s.room = kept_then c.find_way-known.ensures.keeps c.loop-s.invariant.0 in
     (kept).length
 
 pub meet-returns-then-b-s-eq15-2 : goal.meet-returns-then-b-s-eq15-2
 meet-returns-then-b-s-eq15-2 t c =
-    let kept : Kept c.args.start.ends.next c.args.room.now c.loop-s.room = kept_then c.find_way-known.ensures.keeps c.loop-s.invariant.1 in
+    let kept : Kept c.args.start.ends.next c.args.room.now c.loop-s.room = kept_then c.find_way-known.ensures.keeps c.loop-s.invariant.0 in
     record {
       writes = λ p q.
-          let s = c.loop-s.invariant.5 p q in
+          let s = c.loop-s.invariant.4 p q in
           let e = one_less c.loop-s.s.fuel c.loop-s-test.true in
-          whole-written s.text s.emitted s.is
+          whole-written c.args.out.now s.text s.wrote s.is
           (ap (λ (k : ℕ). meet_bytes c.loop-s.s.swapped k s.first.terms s.second.terms) e ∙ right_closed c.args.b.now c.loop-s.s.left c.loop-s.s.right c.loop-s.s.swapped (c.loop-s.s.fuel - 1) s.first s.second c.if-b-s-eq15-2.true);
       keeps = kept;
     }
@@ -263,45 +256,41 @@ pub meet-advance-s-requires : goal.meet-advance-s-requires
 meet-advance-s-requires t c =
     let b = c.args.b.now in
     let p = c.requires in
-    let s = (c.loop-s.invariant.5 c.requires.0.first c.requires.0.second) in
+    let s = (c.loop-s.invariant.4 c.requires.0.first c.requires.0.second) in
     let e = one_less c.loop-s.s.fuel c.loop-s-test.true in (
       omega (arith, c.decreases, s.further, inside b c.loop-s.s.left s.first, inside b c.loop-s.s.right s.second, inside b c.args.start.left p.0.first, inside b c.args.start.right p.0.second),
-      (record { first = s.first; second = s.second; short = stepped_short s e p.0.short }, c.if-b-s-eq15.false, c.if-b-s-eq15-2.false, p.1, omega (arith, s.less, p.2, c.loop-s-test.true), subst (λ (k : ℕ). Way b (in_turn c.loop-s.room c.loop-s.s.ends.next c.loop-s.s.ends.known []) k c.loop-s.s.left c.loop-s.s.right) e c.loop-s.invariant.2, c.loop-s.invariant.3),
+      (record { first = s.first; second = s.second; short = stepped_short s e p.0.short }, c.if-b-s-eq15.false, c.if-b-s-eq15-2.false, p.1, omega (arith, s.less, p.2, c.loop-s-test.true), subst (λ (k : ℕ). Way b (in_turn c.loop-s.room c.loop-s.s.ends.next c.loop-s.s.ends.known []) k c.loop-s.s.left c.loop-s.s.right) e c.loop-s.invariant.1, c.loop-s.invariant.2),
     )
 
 pub meet-loop-s-smaller : goal.meet-loop-s-smaller
 meet-loop-s-smaller t c =
-    let s = (c.loop-s.invariant.5 c.requires.0.first c.requires.0.second) in
+    let s = (c.loop-s.invariant.4 c.requires.0.first c.requires.0.second) in
     omega (arith, (c.advance-s.ensures.steps s.first s.second).less, c.loop-s-test.true)
 
 pub meet-loop-s-preserved : goal.meet-loop-s-preserved
 meet-loop-s-preserved t c =
     let k = c.advance-s.ensures.keeps.1 in
     let o = c.advance-s.ensures.keeps.0 in (
-      c.advance-s.auto.out ∙ c.loop-s.invariant.0,
-      kept_then c.loop-s.invariant.1 (kept_less c.loop-s.invariant.4 k),
+      kept_then c.loop-s.invariant.0 (kept_less c.loop-s.invariant.3 k),
       subst (λ (es : List End). Way c.args.b.now es c.advance-s.result.fuel c.advance-s.result.left c.advance-s.result.right) (in_turn-kept c.advance-s.result.ends.next c.advance-s.result.ends.known [] k (omega (arith, o.is))) o.way,
-      omega (arith, o.is, c.loop-s.invariant.3, k.length),
-      omega (arith, o.is, c.loop-s.invariant.4),
-      λ p q. let s = c.loop-s.invariant.5 p q in stepped_on s (one_less c.loop-s.s.fuel c.loop-s-test.true) (c.advance-s.ensures.steps s.first s.second),
+      omega (arith, o.is, c.loop-s.invariant.2, k.length),
+      omega (arith, o.is, c.loop-s.invariant.3),
+      λ p q. let s = c.loop-s.invariant.4 p q in stepped_on s (one_less c.loop-s.s.fuel c.loop-s-test.true) (c.advance-s.ensures.steps s.first s.second),
     )
-
-pub meet-shape_of-out : goal.meet-shape_of-out
-meet-shape_of-out t c = c.loop-s.invariant.0
 
 pub meet-shape_of-room : goal.meet-shape_of-room
 meet-shape_of-room t c =
-    let kept : Kept c.args.start.ends.next c.args.room.now c.loop-s.room = kept_then c.find_way-known.ensures.keeps c.loop-s.invariant.1 in
+    let kept : Kept c.args.start.ends.next c.args.room.now c.loop-s.room = kept_then c.find_way-known.ensures.keeps c.loop-s.invariant.0 in
     (kept).length
 
 pub meet-returns : goal.meet-returns
 meet-returns t c =
-    let kept : Kept c.args.start.ends.next c.args.room.now c.loop-s.room = kept_then c.find_way-known.ensures.keeps c.loop-s.invariant.1 in
+    let kept : Kept c.args.start.ends.next c.args.room.now c.loop-s.room = kept_then c.find_way-known.ensures.keeps c.loop-s.invariant.0 in
     record {
       writes = λ p q.
-          let s = c.loop-s.invariant.5 p q in
+          let s = c.loop-s.invariant.4 p q in
           let z : c.loop-s.s.fuel ≡ 0 = omega (arith, c.loop-s-test.false) in
-          whole-written s.text s.emitted s.is (ap (λ (k : ℕ). meet_bytes c.loop-s.s.swapped k s.first.terms s.second.terms) z ∙ meet-nothing c.loop-s.s.swapped s.first.terms s.second.terms);
+          whole-written c.args.out.now s.text s.wrote s.is (ap (λ (k : ℕ). meet_bytes c.loop-s.s.swapped k s.first.terms s.second.terms) z ∙ meet-nothing c.loop-s.s.swapped s.first.terms s.second.terms);
       keeps = kept;
     }
 
@@ -329,9 +318,9 @@ put_heads-overflow_add-inside t c = omega (arith, head_inside c.args.b.now c.arg
 pub put_heads-overflow_mul-inside : goal.put_heads-overflow_mul-inside
 put_heads-overflow_mul-inside t c = omega (arith, head_inside c.args.b.now c.args.step.left c.requires.0.first, head_inside c.args.b.now c.args.step.right c.requires.0.second, c.requires.1, c.requires.2)
 
-pub put_heads-meet-close-requires : goal.put_heads-meet-close-requires
+pub put_heads-meet-requires : goal.put_heads-meet-requires
 unfolding put_span put32
-put_heads-meet-close-requires t c =
+put_heads-meet-requires t c =
     let b = c.args.b.now in
     let p = c.requires.0 in
     let k = bracket-at p.first (mark-at b c.args.step.left ∙ c.if-b-step-eq7.true) in
@@ -341,7 +330,7 @@ put_heads-meet-close-requires t c =
         record {
           first = inner_at b c.args.step.left k;
           second = inner_at b c.args.step.right l;
-          short = omega (arith, c.put_mark.ensures.after, both_brackets_long c.args.step.swapped p.first p.second k l, p.short);
+          short = omega (arith, ap count c.put_mark.ensures, both_brackets_long c.args.step.swapped p.first p.second k l, p.short);
         },
         c.requires.1,
         omega arith,
@@ -356,7 +345,7 @@ put_heads-put_byte-requires t c =
     let p = c.requires.0 in
     let k = bracket-at p.first (mark-at b c.args.step.left ∙ c.if-b-step-eq7.true) in
     let l = bracket-at p.second (mark-at b c.args.step.right ∙ c.if-b-step-eq7-2.true) in
-    omega (arith, (c.meet-close.ensures.writes (inner_at b c.args.step.left k) (inner_at b c.args.step.right l)).after, c.put_mark.ensures.after, both_brackets_long c.args.step.swapped p.first p.second k l, p.short)
+    omega (arith, ap count (c.meet.ensures.writes (inner_at b c.args.step.left k) (inner_at b c.args.step.right l)), ap count c.put_mark.ensures, both_brackets_long c.args.step.swapped p.first p.second k l, p.short)
 
 pub put_heads-returns-then-b-step-eq7-2 : goal.put_heads-returns-then-b-step-eq7-2
 put_heads-returns-then-b-step-eq7-2 t c = record {
@@ -365,9 +354,10 @@ put_heads-returns-then-b-step-eq7-2 t c = record {
       let k = bracket-at x (mark-at b c.args.step.left ∙ c.if-b-step-eq7.true) in
       let l = bracket-at y (mark-at b c.args.step.right ∙ c.if-b-step-eq7-2.true) in
       let i = meet_bytes c.args.step.swapped start k.inner.terms l.inner.terms in
-      emitted-same (both-brackets c.args.step.swapped x y k l)
-      (emitted-append (7 ∷ put_span zero_span []) (i ++ (15 ∷ [])) c.put_mark.ensures (emitted-append i (15 ∷ []) (c.meet-close.ensures.writes (inner_at b c.args.step.left k) (inner_at b c.args.step.right l)) c.put_byte.ensures));
-  keeps = c.meet-close.ensures.keeps;
+      let w = c.args.out.now in
+      same w (both-brackets c.args.step.swapped x y k l)
+      (both w (7 ∷ put_span zero_span []) (i ++ (15 ∷ [])) c.put_mark.ensures (both _ i (15 ∷ []) (c.meet.ensures.writes (inner_at b c.args.step.left k) (inner_at b c.args.step.right l)) c.put_byte.ensures));
+  keeps = c.meet.ensures.keeps;
 }
 
 pub put_heads-slice_bounds-put_head-count : goal.put_heads-slice_bounds-put_head-count

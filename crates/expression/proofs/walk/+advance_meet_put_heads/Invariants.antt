@@ -1,5 +1,4 @@
 use Prim.Native.Nat.{◌+◌, ◌≤◌, ◌-◌, ◌*◌}
-use mathlib.Core.Path.{◌≡◌}
 use lib.ListN.{length, drop}
 use Rattle.program.specs.Limits.{Mode}
 use Rattle.image.specs.Parts.{TermsAt}
@@ -20,8 +19,8 @@ decreases-put_heads l = 3 * ((length l.b.now - l.step.left) + (length l.b.now - 
 
 abbrev pub invariant-meet-loop-s : goal.invariant-meet-loop-s
 invariant-meet-loop-s l =
-    (length l.out ≡ length l.initial.out) × Kept l.fn.start.ends.next l.initial.room l.room × Way l.b (in_turn l.room l.s.ends.next l.s.ends.known []) l.s.fuel l.s.left l.s.right × (l.s.ends.next + 3 * l.s.ends.known ≤ length l.room) × (l.fn.start.ends.next ≤ l.s.ends.next + 3 * l.s.ends.known)
-    × ((p : TermsAt Mode.pattern (drop l.fn.start.left l.b)) (q : TermsAt Mode.pattern (drop l.fn.start.right l.b)) → Stepped l.b l.initial.out l.fn.start.place (l.fn.start.left + l.fn.start.right) l.fn.start.fuel (meet_bytes l.fn.start.swapped l.fn.start.fuel p.terms q.terms) l.s l.out)
+    Kept l.fn.start.ends.next l.initial.room l.room × Way l.b (in_turn l.room l.s.ends.next l.s.ends.known []) l.s.fuel l.s.left l.s.right × (l.s.ends.next + 3 * l.s.ends.known ≤ length l.room) × (l.fn.start.ends.next ≤ l.s.ends.next + 3 * l.s.ends.known)
+    × ((p : TermsAt Mode.pattern (drop l.fn.start.left l.b)) (q : TermsAt Mode.pattern (drop l.fn.start.right l.b)) → Stepped l.b l.initial.out (l.fn.start.left + l.fn.start.right) l.fn.start.fuel (meet_bytes l.fn.start.swapped l.fn.start.fuel p.terms q.terms) l.s l.out)
 
 abbrev pub decreases-meet-loop-s : goal.decreases-meet-loop-s
 decreases-meet-loop-s l = l.s.fuel

@@ -1,6 +1,5 @@
 -- `expression::walk::ask` meets its contract: the ends from `right` on make up what all of them do.
 use Prim.Native.Nat.{◌-◌}
-use mathlib.Core.Path.{◌≡◌}
 use lib.ListN.{length, drop}
 use Rattle.program.specs.Limits.{Mode}
 use Rattle.image.specs.Parts.{TermsAt}
@@ -11,8 +10,8 @@ use Rattle.expression.proofs.walk.ask.Given as goal
 
 abbrev pub invariant-loop-x : goal.invariant-loop-x
 invariant-loop-x l =
-    (length l.out ≡ length l.initial.out) × Kept l.step.ends.next l.initial.room l.room
-    × ((x : TermsAt Mode.pattern (drop l.step.left l.b)) (y : TermsAt Mode.pattern (drop l.step.right l.b)) → Absorbing l.b l.initial.out l.step.place l.step.right l.step.fuel l.step.swapped x.terms (split_bytes l.step.swapped l.step.fuel x.terms y.terms) l.right l.fuel l.place l.out)
+    Kept l.step.ends.next l.initial.room l.room
+    × ((x : TermsAt Mode.pattern (drop l.step.left l.b)) (y : TermsAt Mode.pattern (drop l.step.right l.b)) → Absorbing l.b l.initial.out l.step.right l.step.fuel l.step.swapped x.terms (split_bytes l.step.swapped l.step.fuel x.terms y.terms) l.right l.fuel l.out)
 
 abbrev pub decreases-loop-x : goal.decreases-loop-x
 decreases-loop-x l = length l.b - l.right

@@ -7,14 +7,15 @@ use answers::Lengths;
 use program::Refusal;
 
 // A record: the length of the image that follows (0: the image before stays), the lent lengths, the
-// answer, and whether the cleaned image and the report follow (otherwise those before stay).
+// answer, and its cleaned image and report.
 #[derive(Clone, Copy)]
 pub struct CleanQuestion {
     len: usize,
     output: usize,
     work: usize,
     report: usize,
-    follow: bool,
+    cleaned: Part,
+    text: Part,
     expected: Result<Lengths, Refusal>,
 }
 
@@ -45,34 +46,36 @@ fn is_kept_again(cleaned: &[u8]) -> bool {
 }
 
 impl Question<18> for CleanQuestion {
-    fn read(head: &[u8; 18]) -> CleanQuestion {
-        CleanQuestion {
+    fn read(head: &[u8; 18]) -> Option<CleanQuestion> {
+        // The length of a report that no question lends can be a large one.
+        let place = u32::from_le_bytes([head[10], head[11], head[12], head[13]]) as usize;
+        let output = pair(head[14], head[15]);
+        let report = pair(head[16], head[17]);
+        let (cleaned, text, expected) = match (head[8], head[9], place, output, report) {
+            (0, 0, 0, _, _) => {
+                let lengths = Lengths { output, report };
+                (Part::Stays(output), Part::Stays(report), Ok(lengths))
+            }
+            (0, 1, 0, _, _) => {
+                let lengths = Lengths { output, report };
+                (Part::Follows(output), Part::Follows(report), Ok(lengths))
+            }
+            (number, 0, _, 0, 0) => (NO_PART, NO_PART, Refusal::at(number, place)),
+            _ => return None,
+        };
+        Some(CleanQuestion {
             len: pair(head[0], head[1]),
             output: pair(head[2], head[3]),
             work: pair(head[4], head[5]),
             report: pair(head[6], head[7]),
-            follow: head[9] == 1,
-            expected: match head[8] {
-                0 => Ok(Lengths {
-                    output: pair(head[14], head[15]),
-                    report: pair(head[16], head[17]),
-                }),
-                number => Err(Refusal {
-                    number,
-                    // The length of a report that no question lends can be a large one.
-                    place: u32::from_le_bytes([head[10], head[11], head[12], head[13]]) as usize,
-                }),
-            },
-        }
+            cleaned,
+            text,
+            expected,
+        })
     }
 
     fn parts(&self, before: usize) -> [Part; 3] {
-        let image = image_part(self.len, before);
-        match self.expected {
-            Ok(n) if self.follow => [image, Part::Follows(n.output), Part::Follows(n.report)],
-            Ok(n) => [image, Part::Stays(n.output), Part::Stays(n.report)],
-            Err(_) => [image, NO_PART, NO_PART],
-        }
+        [image_part(self.len, before), self.cleaned, self.text]
     }
 
     // Whether the answer is the stored one, and the cleaned image, the report and work are left so.

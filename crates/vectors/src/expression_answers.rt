@@ -17,24 +17,29 @@ pub struct ExpressionQuestion {
 }
 
 impl Question<16> for ExpressionQuestion {
-    fn read(head: &[u8; 16]) -> ExpressionQuestion {
-        ExpressionQuestion {
+    fn read(head: &[u8; 16]) -> Option<ExpressionQuestion> {
+        let spent = pair(head[10], head[11]) as u32;
+        let place = pair(head[12], head[13]);
+        let length = pair(head[14], head[15]);
+        let expected = match (head[8], head[9], spent, place, length) {
+            (0, number, _, 0, _) => {
+                let verdict = stored_verdict(number)?;
+                Ok(Sharing {
+                    verdict,
+                    spent,
+                    length,
+                })
+            }
+            (number, 0, 0, _, 0) => Refusal::at(number, place),
+            _ => return None,
+        };
+        Some(ExpressionQuestion {
             len: pair(head[0], head[1]),
             first: sentence_number(pair(head[2], head[3])),
             second: sentence_number(pair(head[4], head[5])),
             lent: pair(head[6], head[7]),
-            expected: match head[8] {
-                0 => Ok(Sharing {
-                    verdict: stored_verdict(head[9]),
-                    spent: pair(head[10], head[11]) as u32,
-                    length: pair(head[14], head[15]),
-                }),
-                number => Err(Refusal {
-                    number,
-                    place: pair(head[12], head[13]),
-                }),
-            },
-        }
+            expected,
+        })
     }
 
     fn parts(&self, before: usize) -> [Part; 3] {

@@ -15,19 +15,17 @@ pub struct ImageQuestion {
 }
 
 impl Question<8> for ImageQuestion {
-    fn read(head: &[u8; 8]) -> ImageQuestion {
-        ImageQuestion {
+    fn read(head: &[u8; 8]) -> Option<ImageQuestion> {
+        let expected = match (head[5], pair(head[6], head[7])) {
+            (0, 0) => Ok(()),
+            (number, place) => Refusal::at(number, place),
+        };
+        Some(ImageQuestion {
             len: pair(head[0], head[1]),
             position: pair(head[2], head[3]),
             value: head[4],
-            expected: match head[5] {
-                0 => Ok(()),
-                number => Err(Refusal {
-                    number,
-                    place: pair(head[6], head[7]),
-                }),
-            },
-        }
+            expected,
+        })
     }
 
     fn parts(&self, before: usize) -> [Part; 3] {

@@ -45,12 +45,15 @@ fn replay<const N: usize, Q: Question<N>, R: Read>(file: &mut R) -> io::Result<R
         if read_full(file, &mut head)? < N {
             return Ok(done);
         }
-        let q = Q::read(&head);
+        done.asked = asked;
+        let Some(q) = Q::read(&head) else {
+            done.first_wrong = done.first_wrong.or(Some(asked));
+            return Ok(done);
+        };
         let [image, cleaned, text] = q.parts(before);
         before = read_part(file, &mut img, image)?;
         let o = read_part(file, &mut output, cleaned)?;
         let r = read_part(file, &mut report, text)?;
-        done.asked = asked;
         if !q.is_answered(&mut img[..before], &output[..o], &report[..r]) {
             done.first_wrong = done.first_wrong.or(Some(asked));
         }

@@ -16,11 +16,12 @@ pub struct OverlapQuestion {
 }
 
 // A verdict as stored: they are numbered in document 01's order.
-pub fn stored_verdict(number: u8) -> Verdict {
+pub fn stored_verdict(number: u8) -> Option<Verdict> {
     match number {
-        0 => Verdict::Disjoint,
-        1 => Verdict::Overlap,
-        _ => Verdict::Unknown,
+        0 => Some(Verdict::Disjoint),
+        1 => Some(Verdict::Overlap),
+        2 => Some(Verdict::Unknown),
+        _ => None,
     }
 }
 
@@ -30,22 +31,23 @@ pub fn sentence_number(stored: usize) -> usize {
 }
 
 impl Question<12> for OverlapQuestion {
-    fn read(head: &[u8; 12]) -> OverlapQuestion {
-        OverlapQuestion {
+    fn read(head: &[u8; 12]) -> Option<OverlapQuestion> {
+        let spent = pair(head[8], head[9]) as u32;
+        let place = pair(head[10], head[11]);
+        let expected = match (head[6], head[7], spent, place) {
+            (0, number, _, 0) => {
+                let verdict = stored_verdict(number)?;
+                Ok(Comparison { verdict, spent })
+            }
+            (number, 0, 0, _) => Refusal::at(number, place),
+            _ => return None,
+        };
+        Some(OverlapQuestion {
             len: pair(head[0], head[1]),
             first: sentence_number(pair(head[2], head[3])),
             second: sentence_number(pair(head[4], head[5])),
-            expected: match head[6] {
-                0 => Ok(Comparison {
-                    verdict: stored_verdict(head[7]),
-                    spent: pair(head[8], head[9]) as u32,
-                }),
-                number => Err(Refusal {
-                    number,
-                    place: pair(head[10], head[11]),
-                }),
-            },
-        }
+            expected,
+        })
     }
 
     fn parts(&self, before: usize) -> [Part; 3] {

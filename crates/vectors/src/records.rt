@@ -23,7 +23,8 @@ pub const NO_PART: Part = Part::Stays(0);
 
 // The question of a record, whose image comes first; `before` is the length of the image of the record before.
 pub trait Question<const N: usize>: Copy {
-    fn read(head: &[u8; N]) -> Self;
+    // Nothing, where a field that the stored answer does not use is not 0, or a number stands for nothing: no answer is that.
+    fn read(head: &[u8; N]) -> Option<Self>;
 
     fn parts(&self, before: usize) -> [Part; 3];
 
@@ -37,7 +38,7 @@ pub fn pair(low: u8, high: u8) -> usize
     usize::from(u16::from_le_bytes([low, high]))
 }
 
-// An image of that many bytes: of 0 where the image before stays.
+// An image of that many bytes; a stored 0 says that the image before stays, as the scripts write it.
 pub fn image_part(len: usize, before: usize) -> Part {
     if len == 0 {
         Part::Stays(before)

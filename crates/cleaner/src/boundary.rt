@@ -9,7 +9,7 @@ use crate::{clean, overlap, overlap_expression};
 use patterns::Verdict;
 use program::Refusal;
 
-// Bits 0 to 7 the refusal's number or 0, 8 to 23 the middle, 24 to 63 the rest.
+// Bits 0 to 7 the refusal's number or 0, 8 to 23 the middle, 24 to 63 the rest: a function of C hands back one number.
 fn pack(number: u64, middle: u64, rest: u64) -> u64
     requires { FieldsFit number middle rest }
     ensures { result ≡ packed number middle rest }

@@ -1,5 +1,5 @@
 // Whether two sequences of terms have the same text, letter by letter on the image's own bytes. An
-// identifier may be spelled as a variable is, so tokens are not compared.
+// identifier may be spelled as a variable is, so tokens are not compared. A code is a number with a bound, as the writing end has it.
 #![tactic(auto)]
 
 ghost use Rattle.std.specs.Prelude.{◌≡◌, true, cond, ◌&&◌, ◌∷◌, ◌+◌, ◌<◌, ◌≤◌, eqb, length, get_or};

@@ -1,4 +1,6 @@
 // Parts of an image: how long a record is, where its parts stand, and the way from one record to the next.
+// What stands at a place is a clause (`TermsAt`, `SentenceAt`, `Accepted`, ..), here and above, and no ghost field: it holds what was
+// read, which contracts hand on, and a ghost field holds propositions alone.
 // Marks stay numbers, as the definition of the bytes writes them: the arms are ranges of them, and an enum would be made of a byte only to be matched once.
 ghost use Rattle.std.specs.Prelude.{◌≡◌, ◌∷◌, suc, ◌+◌, ◌-◌, ◌*◌, ◌<◌, ◌≤◌, min, length, get_or, take, drop};
 ghost use Rattle.program.specs.Encode.{put_terms, put_conditions, put_sentences, put_functions, own_sentence_count};
@@ -10,7 +12,7 @@ ghost use Rattle.program.specs.Sentences.{own_sentences};
 
 use crate::number::{read16, read32};
 
-// The byte at i, 0 past the end.
+// The byte at i, 0 past the end, as the definition of the bytes has it: each caller adds it to a length, and would make 0 of a `None`.
 fn byte_or(s: &[u8], i: usize) -> usize
     ensures { (result ≡ get_or s.now i 0) × (result < 256) }
 {

@@ -1,4 +1,5 @@
-// Where the columns of work begin.
+// Where the columns of work begin. The bounds stand at each method: in the type they would be asked of those too that know less of a
+// plan, as `fell` does.
 ghost use Rattle.std.specs.Prelude.{◌≡◌, ◌+◌, ◌%◌, ◌<◌, ◌≤◌, length, get_or};
 ghost use Rattle.index.specs.Layout.{lines, witnesses, marks, calls, links, notes, room, Reaches};
 

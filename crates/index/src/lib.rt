@@ -1,4 +1,6 @@
 // Functions, sentences and call sites as entries of work: what no round can change.
+// How long body and work are at most, and that a number is below a count, stay clauses: they are of two parameters each, or would be
+// opened at each byte and entry.
 #![tactic(auto)]
 
 pub mod classes;

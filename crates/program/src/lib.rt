@@ -3,7 +3,8 @@
 
 use std::fmt;
 
-// A refusal by document 01's number, and its place.
+// A refusal by document 01's number, and its place. The number stays one: callers in C are handed it, and the definitions order
+// refusals by it.
 #[derive(Clone, Copy, Debug, PartialEq, Eq)]
 pub struct Refusal {
     pub number: u8,

@@ -72,7 +72,7 @@ fn stays_open(b: &[u8], work: &mut [u32], plan: Plan, f: usize, s: usize) -> boo
     is_there(work, plan, s, AFTER_ALL) && !is_decided(b, work, plan, f, s)
 }
 
-// Notes it of the sentence s.
+// Notes it of the sentence s: a flag, since what is noted is one bit.
 fn set_open(work: &mut [u32], plan: Plan, s: usize, undecided: bool)
     requires { (s < plan.sentences) × Reaches (marks plan) work.old }
     ensures { OpenSet plan work.old work.new s undecided }

@@ -1,4 +1,7 @@
 // The undecided sentences: those that no restriction gives Overlap.
+// They are told as the uncovered restrictions are. One function of both would take as ghost members what a candidate stands for, what
+// is asked of it, which repeat, the line and the last one, and be longer than the two; and only the others ask the search, which
+// changes work.
 ghost use Rattle.std.specs.Prelude.{◌≡◌, suc, ◌+◌, ◌*◌, ◌<◌, ◌≤◌, length};
 ghost use mathlib.Core.List.{[], ◌∷◌, flat_map};
 ghost use Rattle.std.proofs.Math.Option.{some};

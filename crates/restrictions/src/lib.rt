@@ -1,4 +1,5 @@
 // Call sites and the restrictions that they make, on an image's own bytes.
+// That a body has at most 32,768 bytes stays a clause: in a struct it would be opened at each byte.
 #![tactic(auto)]
 
 ghost use Rattle.std.specs.Prelude.{◌≡◌, List, ℕ, ◌+◌, ◌<◌, ◌≤◌, length, drop};

@@ -1,5 +1,7 @@
 // The table of two patterns. One row of it is kept, two words for each tail of the second; a turn makes of the row of a tail of
 // the first that of the tail one term longer. Two brackets are a table of their own, behind the row.
+// The room goes on whole, with the place from which it is free: the lists that a table reads stand below the row that it writes, and
+// parts lent on would be split in two at each level of brackets.
 ghost use Rattle.std.specs.Prelude.{◌≡◌, ◌+◌, ◌*◌, ◌<◌, ◌≤◌, length, get_or, set, IfSome};
 ghost use Rattle.program.specs.Syntax.{Terms};
 ghost use Rattle.patterns.specs.Search.{View, view, size};

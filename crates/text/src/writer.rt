@@ -1,4 +1,6 @@
 // The report's writing end: a text is written behind what is filled, as far as the lent bytes go, and counted in any case.
+// A code is a number with a bound and no `char`, which would ask more: that it is no surrogate. That a text ends below the limit is a
+// fact of the writing end and the text.
 ghost use Rattle.std.specs.Prelude.{◌≡◌, [], ◌∷◌, ◌+◌, ◌<◌, ◌≤◌, length};
 ghost use Rattle.meaning.specs.Text.{utf8};
 ghost use Rattle.meaning.specs.Decimal.{decimal};

@@ -3,12 +3,15 @@ ghost use Rattle.std.specs.Prelude.{◌≡◌, ◌++◌, ◌+◌, ◌≤◌, ◌
 ghost use Rattle.std.proofs.Math.Seq.{paste};
 ghost use Rattle.program.specs.Bytes.{put16, put32};
 
-// Copies n bytes of src from `from` on into dst from `to` on.
+// Copies n bytes of src from `from` on into dst from `to` on, byte by byte: the library's copy of n bytes would ask for
+// `memcpy` from outside.
 pub fn copy_bytes(src: &[u8], from: usize, dst: &mut [u8], to: usize, n: usize)
     requires { (from + n ≤ length src.now) × (to + n ≤ length dst.old) }
     ensures { dst.new ≡ paste dst.old to (drop from src.now) n }
 {
-    dst[to..to + n].copy_from_slice(&src[from..from + n]);
+    for i in 0..n {
+        dst[to + i] = src[from + i];
+    }
 }
 
 // Writes a 16-bit number at `at`.

@@ -1,11 +1,10 @@
 -- Laws of emission.
-use Prim.Native.Nat.{ℕ, zero, suc, ◌+◌, ◌≤◌, ◌<◌}
+use Prim.Native.Nat.{ℕ, suc, ◌+◌, ◌≤◌}
 use native.Mathlib.Omega.{arith}
 use mathlib.Core.Path.{◌≡◌, refl, sym, ap, subst, ◌∙◌}
-use mathlib.Core.List.{List, [], ◌∷◌, ◌++◌, append_assoc}
-use lib.ListN.{length, take, drop, set, length-set, length-append}
-use borrow.Rule.Slice.PartMut.{put_mid}
-use lib.Seq.{drop-drop, length-take-le, sets, length-sets, sets-eq, set_out}
+use mathlib.Core.List.{List, [], ◌∷◌, ◌++◌}
+use lib.ListN.{length, take, drop, set, length-append}
+use lib.Seq.{sets, length-sets, sets-eq, set_out}
 use Rattle.meaning.specs.Text.{Text}
 use Rattle.text.specs.Fill.{filled, Emitted}
 
@@ -29,14 +28,6 @@ unfolding filled
 filled-out [] s p h = refl
 filled-out (b ∷ t) s p h = ap (λ (l : List ℕ). filled l (suc p) t) (set_out s p b h) ∙ filled-out t s (suc p) (omega arith)
 
--- Nor what is past the n bytes that fit.
-filled_front : (t : Text) (s : List ℕ) (p n : ℕ) → (n < length t → length s ≤ p + n) → filled s p t ≡ filled s p (take n t)
-unfolding filled
-filled_front [] s p zero h = refl
-filled_front [] s p (suc n) h = refl
-filled_front (b ∷ t) s p zero h = filled-out (b ∷ t) s p (omega (arith, h (omega arith)))
-filled_front (b ∷ t) s p (suc n) h = filled_front t (set s p b) (suc p) n (λ l. omega (arith, h (omega arith), length-set s p b))
-
 -- Into an empty part nothing is written.
 pub filled-empty : (t : Text) (p : ℕ) → filled [] p t ≡ []
 unfolding filled
@@ -46,15 +37,6 @@ filled-empty (b ∷ t) p = ap (λ (l : List ℕ). filled l (suc p) t) (set_out [
 -- A text that fits stands at its place, and all else is as before.
 pub filled-fits : (s : List ℕ) (p : ℕ) (t : Text) → p + length t ≤ length s → filled s p t ≡ take p s ++ t ++ drop (p + length t) s
 filled-fits s p t h = filled_sets t s p ∙ sets-eq t s p h
-
--- n bytes are copied to p: all, or as many as fit.
-pub filled_copied : (t : Text) (s : List ℕ) (p n : ℕ) (copied : List ℕ) → p + n ≤ length s → n ≤ length t → (n < length t → length s ≤ p + n) → copied ≡ take n t → put_mid p n s copied ≡ filled s p t
-filled_copied t s p n copied h k l e =
-    let m : length (take n t) ≡ n = length-take-le n t k in
-    ap (λ (x : List ℕ). take p s ++ (x ++ drop n (drop p s))) e
-    ∙ (ap (λ (x : List ℕ). take p s ++ (take n t ++ x)) (drop-drop n p s ∙ ap (λ (q : ℕ). drop (p + q) s) (sym m))
-    ∙ (sym (append_assoc (take p s) (take n t) (drop (p + length (take n t)) s))
-    ∙ (sym (filled-fits s p (take n t) (omega (arith, m))) ∙ sym (filled_front t s p n l))))
 
 -- From the start on.
 pub filled-start : (s : List ℕ) (t : Text) → length t ≤ length s → filled s 0 t ≡ t ++ drop (length t) s

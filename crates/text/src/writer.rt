@@ -27,16 +27,14 @@ impl<'a> Writer<'a> {
         self.filled += 1;
     }
 
-    // A text of bytes, of which as many are copied as fit.
+    // A text, byte by byte: the library's copy would ask for `memcpy` from outside.
     pub fn put_bytes(&mut self, bytes: &[u8])
         requires { self.old.filled + length bytes.now ≤ limit }
         ensures { self.new ≡ written self.old bytes.now }
     {
-        if self.filled < self.text.len() {
-            let end = self.text.len().min(self.filled + bytes.len());
-            self.text[self.filled..end].copy_from_slice(&bytes[..end - self.filled]);
+        for b in bytes {
+            self.put_byte(*b);
         }
-        self.filled += bytes.len();
     }
 
     // A character in UTF-8, by shifts and masks as document 01 has it.

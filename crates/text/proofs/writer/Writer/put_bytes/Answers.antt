@@ -1,14 +1,14 @@
-use Rattle.std.proofs.Common.{refl, sym, ◌-◌, arith}
-use Rattle.text.proofs.Fill.{filled-out, filled_copied}
-use Rattle.text.proofs.Written.{written-is}
+use Rattle.std.proofs.Common.{sym, take, arith}
+use Rattle.std.proofs.lemmas.List.{take_more}
+use Rattle.text.proofs.Written.{written-nothing, both, same}
 use Rattle.text.proofs.writer.Writer.put_bytes.Goals as goal
-use Rattle.text.proofs.writer.Writer.put_bytes.Goals.{then-self, else-self}
 
-pub returns : goal.returns
-returns c =
+pub loop-b-init : goal.loop-b-init
+loop-b-init c = written-nothing c.args.self.now
+
+pub loop-b-preserved : goal.loop-b-preserved
+loop-b-preserved c =
     let w = c.args.self.now in
     let t = c.args.bytes.now in
-    elim c.if-self.branch [
-      | then-self x ↦ rw x.self-is (written-is w t _ _ (filled_copied t w.text.now w.filled (x.min-end.result - w.filled) x.copy_from_slice.new.self (omega (arith, x.min-end.ensures)) (omega (arith, x.min-end.ensures)) (λ l. omega (arith, x.min-end.ensures)) x.copy_from_slice.ensures.after) refl)
-      | else-self x ↦ rw x.self-is (written-is w t _ _ (sym (filled-out t w.text.now w.filled x.if-self.false)) refl)
-    ]
+    let i = c.loop-b.b-index in
+    same w (sym (take_more t i 0 (omega arith))) (both w (take i t) _ c.loop-b.invariant c.put_byte.ensures)

@@ -6,11 +6,12 @@ use mathlib.Core.Logic.{◌⊎◌, inl, inr}
 use mathlib.Core.List.{List, [], ◌∷◌, ◌++◌, append_assoc, append-nil}
 use lib.ListN.{length, get_or, drop, set, length-append, length-drop}
 use lib.Seq.{drop-drop}
+use Rattle.std.specs.Prelude.{Option, Some, None}
 use Rattle.program.specs.Bytes.{put32, put_span, put_name}
 use Rattle.program.specs.Encode.{put_terms, put_conditions}
 use Rattle.program.specs.Limits.{Mode}
-use Rattle.image.specs.Parts.{Passes, TermsAt, put_sentence, SentenceAt, tail}
-use Rattle.program.proofs.Lengths.{head-length, terms-length, conditions-length}
+use Rattle.image.specs.Parts.{Passes, TermsAt, SentenceAt, tail}
+use Rattle.program.proofs.Lengths.{terms-length, conditions-length}
 use Rattle.symbols.proofs.Parts.{part_rest}
 use Rattle.rows.proofs.Readings.{part, part_length, part_part}
 use Rattle.restrictions.specs.declared.Walk.{Walk}
@@ -18,8 +19,8 @@ use Rattle.meaning.specs.Sites.{Site, site}
 use Rattle.restrictions.specs.Entries.{CallAt, entry_offset, entry_sentence, Entry, Appended}
 use Rattle.told.specs.Numbered.{held_by}
 use Rattle.restrictions.specs.Records.{Records, terms, conditions, put_records, record_sites, ValidRecords, RecordsAt, Collected}
-use Rattle.restrictions.proofs.Inside.{records-length, put_all, sites_then, AllValid, all-length, then_append, OpenHere, CallHere, SentenceHere, CloseHere, FlatHere, open_here, call-here, sentence-here, close-here, flat_here}
-use Rattle.restrictions.proofs.Stage.{InResult, InConditions, Stage, own, of_result, of_conditions, stage_on, Stands, to_go, less_back, less-out}
+use Rattle.restrictions.proofs.Inside.{sort, records-length, put_all, sites_then, AllValid, all-length, then_append, OpenHere, CallHere, SentenceHere, CloseHere, FlatHere, open_here, call-here, sentence-here, close-here, flat_here}
+use Rattle.restrictions.proofs.Stage.{InResult, InConditions, Stage, Stands, to_go, less_back, less-out}
 use Rattle.restrictions.proofs.Appended.{held-append, held-length, appended_nothing, appended-length, appended_then, appended_one}
 
 -- A body with s at a place.
@@ -32,7 +33,7 @@ body_with_lem zero s = refl
 body_with_lem (suc n) s = body_with_lem n s
 
 -- At the loop's head: the lists that are opened at i, and the records in which they stand.
-pub record Going (b s : List ℕ) (k : ℕ) (old : List ℕ) (n : ℕ) (new : List ℕ) (i c q next : ℕ) (r : RecordsAt s) : Type 0 where
+pub record Going (b s : List ℕ) (k : ℕ) (old : List ℕ) (n : ℕ) (new : List ℕ) (i c q : ℕ) (next : Option ℕ) (r : RecordsAt s) : Type 0 where
   pub opened : List Records
   pub first : Records
   pub after : List ℕ
@@ -46,7 +47,7 @@ pub record Going (b s : List ℕ) (k : ℕ) (old : List ℕ) (n : ℕ) (new : Li
   pub appended : Appended b old n c new (held_by k done)
   pub whole : record_sites r.records ≡ done ++ sites_then opened (record_sites first ++ later)
 
-pub going_first : {b s : List ℕ} (k : ℕ) (old : List ℕ) (n : ℕ) (r : RecordsAt s) → n ≤ length old → Going b s k old n old 0 n 0 0 r
+pub going_first : {b s : List ℕ} (k : ℕ) (old : List ℕ) (n : ℕ) (r : RecordsAt s) → n ≤ length old → Going b s k old n old 0 n 0 None r
 unfolding held_by
 going_first {b} {s} k old n r l = record {
   opened = [];
@@ -57,7 +58,7 @@ going_first {b} {s} k old n r l = record {
   valid_opened = tt;
   valid = r.valid;
   lists = refl;
-  stage = own refl refl refl;
+  stage = (refl, refl);
   done = [];
   appended = appended_nothing b old n l;
   whole = sym (append-nil (record_sites r.records));
@@ -77,7 +78,7 @@ pub record FirstOf (l : List Records) : Type 0 where
   pub others : List Records
   pub is : l ≡ list ∷ others
 
-module _ {b s : List ℕ} {k : ℕ} {old : List ℕ} {n : ℕ} {new : List ℕ} {i c q next : ℕ} {r : RecordsAt s} (g : Going b s k old n new i c q next r) where
+module _ {b s : List ℕ} {k : ℕ} {old : List ℕ} {n : ℕ} {new : List ℕ} {i c q : ℕ} {next : Option ℕ} {r : RecordsAt s} (g : Going b s k old n new i c q next r) where
   abbrev left : List Site
   left = sites_then g.opened (record_sites g.first ++ g.later)
 
@@ -93,22 +94,46 @@ module _ {b s : List ℕ} {k : ℕ} {old : List ℕ} {n : ℕ} {new : List ℕ} 
   going_room : n + length (record_sites r.records) ≤ length old → c + length left ≤ length new
   going_room l = omega (arith, l, going_length, g.appended.count, g.appended.many, held-length k g.done, ap length g.whole, length-append g.done left)
 
-  before_more : InConditions s r.rest next g.first g.after g.later → (i < next) × (next < length s)
-  before_more h = (
-    omega (arith, part_long, h.longer, ap length h.is, part_length s i, part_length s next),
-    omega (arith, ap length h.is, records-length h.more r.rest, part_length s next),
+  before_more : (p : ℕ) → InConditions s r.rest p g.first g.after g.later → (i < p) × (p < length s)
+  before_more p h = (
+    omega (arith, part_long, h.longer, ap length h.is, part_length s i, part_length s p),
+    omega (arith, ap length h.is, records-length h.more r.rest, part_length s p),
   )
 
   pub stands : Stands (length s) i next
-  stands = go g.stage
+  stands = go next g.stage
     where
-      go : Stage s r.rest i next g.first g.after g.later → Stands (length s) i next
-      go (own a b c) = inl a
-      go (of_result h) = inr (inl h.passed)
-      go (of_conditions h) = inr (inr (before_more h))
+      go : (o : Option ℕ) → Stage s r.rest i o g.first g.after g.later → Stands (length s) i o
+      go None t = tt
+      go (Some p) (inl h) = inl h.passed
+      go (Some p) (inr h) = inr (before_more p h)
+
+  -- Further on in records of the same sort.
+  stage_on : (j : ℕ) (y : Records) → i ≤ j → sort y ≡ sort g.first → Stage s r.rest j next y g.after g.later
+  stage_on j y l e = go next g.stage
+    where
+      go : (o : Option ℕ) → Stage s r.rest i o g.first g.after g.later → Stage s r.rest j o y g.after g.later
+      go None h = h
+      go (Some p) (inl h) =
+          inl
+          (record {
+            conditions = h.conditions;
+            follows = h.follows;
+            more = h.more;
+            of_terms = e ∙ h.of_terms;
+            of_conditions = h.of_conditions;
+            passed = omega (arith, l, h.passed);
+            is = h.is;
+            valid = h.valid;
+            is-more = h.is-more;
+            valid-more = h.valid-more;
+            longer = h.longer;
+            sites = h.sites;
+          })
+      go (Some p) (inr h) = inr (record { more = h.more; of_conditions = e ∙ h.of_conditions; is = h.is; valid = h.valid; longer = h.longer; sites = h.sites })
 
   -- After more sites.
-  going_on : {new' : List ℕ} {i' c' q' next' : ℕ} (ys : List Site) → Appended b new c c' new' (held_by k ys) → (xs : List Records) (x : Records) (after : List ℕ) (later : List Site) → part s i' ≡ put_all xs (put_records x after) → AllValid xs → ValidRecords x → q' ≡ length xs → Stage s r.rest i' next' x after later → left ≡ ys ++ sites_then xs (record_sites x ++ later)
+  going_on : {new' : List ℕ} {i' c' q' : ℕ} {next' : Option ℕ} (ys : List Site) → Appended b new c c' new' (held_by k ys) → (xs : List Records) (x : Records) (after : List ℕ) (later : List Site) → part s i' ≡ put_all xs (put_records x after) → AllValid xs → ValidRecords x → q' ≡ length xs → Stage s r.rest i' next' x after later → left ≡ ys ++ sites_then xs (record_sites x ++ later)
       → Going b s k old n new' i' c' q' next' r
   going_on {new'} {i'} {c'} ys a xs x after later e v w m t z = record {
     opened = xs;
@@ -161,7 +186,7 @@ module _ {b s : List ℕ} {k : ℕ} {old : List ℕ} {n : ℕ} {new : List ℕ} 
 
     pub descended : {new' : List ℕ} {w : Walk} → Collected b (part s i) k new c new' w inner_reading → Going b s k old n new' (i + w.at) w.count (q - 1) next r
     descended {w = w} z =
-        going_on (record_sites list_in.list) z.appended list_in.others g.first g.after g.later (sym (part_part s i w.at) ∙ z.left) inner_valid.1 g.valid (omega (arith, g.lists, ap length list_in.is)) (stage_on (omega arith) refl g.stage) left_is
+        going_on (record_sites list_in.list) z.appended list_in.others g.first g.after g.later (sym (part_part s i w.at) ∙ z.left) inner_valid.1 g.valid (omega (arith, g.lists, ap length list_in.is)) (stage_on (i + w.at) g.first (omega arith) refl) left_is
 
     -- It is empty.
     pub skipped : get_or (part s i) 0 0 ≡ 15 → Going b s k old n new (i + 1) c (q - 1) next r
@@ -211,7 +236,7 @@ module _ {b s : List ℕ} {k : ℕ} {old : List ℕ} {n : ℕ} {new : List ℕ} 
         pub flat_passed : Going b s k old n new (i + j) c q next r
         unfolding put_records
         flat_passed =
-            going_on [] nothing-listed [] (terms (tail flat_in.first)) g.after g.later (sym (part_part s i j) ∙ h.left) tt flat_in.valid-next no_lists (stage_on (omega arith) flat_in.same g.stage) (left_here ∙ ap (λ (l : List Site). l ++ g.later) flat_in.sites)
+            going_on [] nothing-listed [] (terms (tail flat_in.first)) g.after g.later (sym (part_part s i j) ∙ h.left) tt flat_in.valid-next no_lists (stage_on (i + j) (terms (tail flat_in.first)) (omega arith) flat_in.same) (left_here ∙ ap (λ (l : List Site). l ++ g.later) flat_in.sites)
 
     module _ (m : get_or (part s i) 0 0 ≡ 8) where
       pub call-in : CallHere g.first g.after
@@ -241,7 +266,7 @@ module _ {b s : List ℕ} {k : ℕ} {old : List ℕ} {n : ℕ} {new : List ℕ} 
         call-passed at e d t l =
             let x = site call-in.call.callee call-in.call.argument in
             let a = record_sites (terms call-in.call.argument) in
-            going_on (x ∷ []) (appended_one b new c e (record { sentence = k; site = x }) l entry_here) (terms call-in.call.argument ∷ []) call-in.next g.after g.later argument_is (call-in.call.valid, tt) call-in.valid-next refl (stage_on (omega arith) call-in.same g.stage)
+            going_on (x ∷ []) (appended_one b new c e (record { sentence = k; site = x }) l entry_here) (terms call-in.call.argument ∷ []) call-in.next g.after g.later argument_is (call-in.call.valid, tt) call-in.valid-next refl (stage_on (i + j) call-in.next (omega arith) call-in.same)
             (left_here ∙ (ap (λ (l : List Site). l ++ g.later) call-in.sites ∙ ap (λ (l : List Site). x ∷ l) (append_assoc a (record_sites call-in.next) g.later)))
           where
             entry_here : Entry b e (record { sentence = k; site = site call-in.call.callee call-in.call.argument })
@@ -267,35 +292,23 @@ module _ {b s : List ℕ} {k : ℕ} {old : List ℕ} {n : ℕ} {new : List ℕ} 
       }
 
       -- A sentence stands in no other of the same walk.
-      among-own : ((next ≡ 0) × (g.after ≡ r.rest)) × (g.later ≡ [])
-      among-own = go g.stage
+      among-own : (next ≡ None) × ((g.after ≡ r.rest) × (g.later ≡ []))
+      among-own = go next g.stage
         where
-          go : Stage s r.rest i next g.first g.after g.later → ((next ≡ 0) × (g.after ≡ r.rest)) × (g.later ≡ [])
-          go (own a b c) = ((a, b), c)
-          go (of_result h) = absurd (omega (arith, h.of_terms, sentence_in.among))
-          go (of_conditions h) = absurd (omega (arith, h.of_conditions, sentence_in.among))
+          go : (o : Option ℕ) → Stage s r.rest i o g.first g.after g.later → (o ≡ None) × ((g.after ≡ r.rest) × (g.later ≡ []))
+          go None t = (refl, t)
+          go (Some p) (inl h) = absurd (omega (arith, h.of_terms, sentence_in.among))
+          go (Some p) (inr h) = absurd (omega (arith, h.of_conditions, sentence_in.among))
 
-      pub none_before : next ≡ 0
-      none_before = among-own.0.0
+      pub none_before : next ≡ None
+      none_before = among-own.0
 
       abbrev result-bytes : List ℕ
       result-bytes = put_terms sentence_in.here.sentence.result sentence_in.here.rest
 
-      abbrev conditions-bytes : List ℕ
-      conditions-bytes = put_conditions sentence_in.here.sentence.conditions (12 ∷ result-bytes)
-
-      sentence-long : length conditions-bytes < length (part s i)
-      unfolding put_sentence
-      sentence-long =
-          let x = sentence_in.here.sentence in
-          omega (arith, ap length sentence-part.is, head-length x.head (put_terms x.pattern conditions-bytes), terms-length x.pattern conditions-bytes)
-
       module _ (j : ℕ) (h : Passes (part s i) j (put_conditions sentence_in.here.sentence.conditions (12 ∷ put_terms sentence_in.here.sentence.result sentence_in.here.rest))) where
-        pub conditions-fits : (0 < j) × (i + j ≤ length s)
-        conditions-fits = (
-          omega (arith, h.fits, length-drop j (part s i), ap length h.left, sentence-long),
-          omega (arith, h.fits, part_length s i, going_within),
-        )
+        pub conditions-fits : i + j ≤ length s
+        conditions-fits = omega (arith, h.fits, part_length s i, going_within)
 
         conditions-is : part s (i + j) ≡ put_records (conditions sentence_in.here.sentence.conditions) result-bytes
         unfolding put_records
@@ -319,20 +332,20 @@ module _ {b s : List ℕ} {k : ℕ} {old : List ℕ} {n : ℕ} {new : List ℕ} 
             more = sentence_in.next;
             of_terms = refl;
             of_conditions = refl;
-            passed = (omega (arith, conditions-fits), omega (arith, result_fits));
+            passed = omega (arith, result_fits);
             is = conditions-is;
             valid = sentence_in.here.valid-conditions;
-            is-more = sentence_in.is ∙ ap (put_records sentence_in.next) among-own.0.1;
+            is-more = sentence_in.is ∙ ap (put_records sentence_in.next) among-own.1.0;
             valid-more = sentence_in.valid-next;
             longer = omega (arith, terms-length sentence_in.here.sentence.result sentence_in.here.rest);
             sites = refl;
           }
 
           -- To its result.
-          pub sentence-entered : Going b s k old n new (i + p) c q (i + j) r
+          pub sentence-entered : Going b s k old n new (i + p) c q (Some (i + j)) r
           sentence-entered =
-              going_on [] nothing-listed [] (terms sentence_in.here.sentence.result) sentence_in.here.rest (record_sites (conditions sentence_in.here.sentence.conditions) ++ record_sites sentence_in.next) result-is tt sentence_in.here.valid-result no_lists (of_result in-result)
-              (left_here ∙ (ap (λ (l : List Site). record_sites g.first ++ l) among-own.1 ∙ (append-nil (record_sites g.first) ∙ sentence_in.sites)))
+              going_on [] nothing-listed [] (terms sentence_in.here.sentence.result) sentence_in.here.rest (record_sites (conditions sentence_in.here.sentence.conditions) ++ record_sites sentence_in.next) result-is tt sentence_in.here.valid-result no_lists (inl in-result)
+              (left_here ∙ (ap (λ (l : List Site). record_sites g.first ++ l) among-own.1.1 ∙ (append-nil (record_sites g.first) ∙ sentence_in.sites)))
 
     module _ (low : 7 ≤ get_or (part s i) 0 0) (n8 : get_or (part s i) 0 0 ≡ 8 → ⊥) (n10 : get_or (part s i) 0 0 ≡ 10 → ⊥) (m : get_or (part s i) 0 0 < 12) where
       open_in : OpenHere g.first g.after
@@ -347,7 +360,7 @@ module _ {b s : List ℕ} {k : ℕ} {old : List ℕ} {n : ℕ} {new : List ℕ} 
       -- To the lists inside, of which there are o.
       pub lists-opened : (o : ℕ) → ((get_or (part s i) 0 0 ≡ 7) → o ≡ 1) × ((get_or (part s i) 0 0 ≡ 7 → ⊥) → o ≡ 2) → Going b s k old n new (i + 9) c o next r
       lists-opened o h =
-          going_on [] nothing-listed open_in.inner open_in.next g.after g.later inside_is open_in.valid_inner open_in.valid-next (go open_in.many) (stage_on (omega arith) open_in.same g.stage)
+          going_on [] nothing-listed open_in.inner open_in.next g.after g.later inside_is open_in.valid_inner open_in.valid-next (go open_in.many) (stage_on (i + 9) open_in.next (omega arith) open_in.same)
           (left_here ∙ (ap (λ (l : List Site). l ++ g.later) open_in.sites ∙ then_append open_in.inner (record_sites open_in.next) g.later))
         where
           go : ((get_or (put_records g.first g.after) 0 0 ≡ 7) × (length open_in.inner ≡ 1)) ⊎ ((get_or (put_records g.first g.after) 0 0 ≡ 7 → ⊥) × (length open_in.inner ≡ 2)) → o ≡ length open_in.inner
@@ -365,14 +378,9 @@ module _ {b s : List ℕ} {k : ℕ} {old : List ℕ} {n : ℕ} {new : List ℕ} 
       left_closed = left_here ∙ ap (λ (l : List Site). l ++ g.later) close_in.sites
 
       -- The close of the part's own records.
-      module _ (e : next ≡ 0) where
+      module _ (e : next ≡ None) where
         closed-own : (g.after ≡ r.rest) × (g.later ≡ [])
-        closed-own = go g.stage
-          where
-            go : Stage s r.rest i next g.first g.after g.later → (g.after ≡ r.rest) × (g.later ≡ [])
-            go (own a b c) = (b, c)
-            go (of_result h) = absurd (omega (arith, h.passed, e))
-            go (of_conditions h) = absurd (omega (arith, before_more h, e))
+        closed-own = subst (λ (o : Option ℕ). Stage s r.rest i o g.first g.after g.later) e g.stage
 
         pub going_done : {w : Walk} → w.at ≡ i + 1 → w.count ≡ c → Collected b s k old n new w r
         going_done {w} a f = record {
@@ -383,36 +391,32 @@ module _ {b s : List ℕ} {k : ℕ} {old : List ℕ} {n : ℕ} {new : List ℕ} 
         }
 
       -- From the result of a sentence to its conditions, or from these to the records after it.
-      module _ (e : next ≡ 0 → ⊥) (v : ℕ) (h : ((get_or (part s i) 0 0 ≡ 15) → v ≡ i + 1) × ((get_or (part s i) 0 0 ≡ 15 → ⊥) → v ≡ 0)) where
-        to-conditions : InResult s r.rest i next g.first g.after g.later → v ≡ i + 1
+      module _ (p : ℕ) (e : next ≡ Some p) (v : Option ℕ) (h : ((get_or (part s i) 0 0 ≡ 15) → v ≡ Some (i + 1)) × ((get_or (part s i) 0 0 ≡ 15 → ⊥) → v ≡ None)) where
+        closed_inside : InResult s r.rest i p g.first g.after g.later ⊎ InConditions s r.rest p g.first g.after g.later
+        closed_inside = subst (λ (o : Option ℕ). Stage s r.rest i o g.first g.after g.later) e g.stage
+
+        to-conditions : InResult s r.rest i p g.first g.after g.later → v ≡ Some (i + 1)
         to-conditions t = h.0 (mark-here ∙ close_in.of_others (λ f. omega (arith, f, t.of_terms)))
 
-        to-more : InConditions s r.rest next g.first g.after g.later → v ≡ 0
+        to-more : InConditions s r.rest p g.first g.after g.later → v ≡ None
         to-more t = h.1 (λ f. close_in.of_conditions t.of_conditions (sym mark-here ∙ f))
 
-        pub resumed : Going b s k old n new next c q v r
-        resumed = go g.stage
+        pub resumed : Going b s k old n new p c q v r
+        resumed = go closed_inside
           where
-            go : Stage s r.rest i next g.first g.after g.later → Going b s k old n new next c q v r
-            go (own a b c) = absurd (e a)
-            go (of_result t) =
-                going_on [] nothing-listed [] t.conditions t.follows (record_sites t.more) t.is tt t.valid no_lists
-                (of_conditions (record {
-                  more = t.more;
-                  of_conditions = t.of_conditions;
-                  is = ap (part s) (to-conditions t) ∙ (closed_is ∙ t.is-more);
-                  valid = t.valid-more;
-                  longer = omega (arith, t.longer, ap length t.is-more);
-                  sites = refl;
-                }))
-                (left_closed ∙ t.sites)
-            go (of_conditions t) =
-                going_on [] nothing-listed [] t.more r.rest [] t.is tt t.valid no_lists (own (to-more t) refl refl) (left_closed ∙ (t.sites ∙ sym (append-nil (record_sites t.more))))
+            go : InResult s r.rest i p g.first g.after g.later ⊎ InConditions s r.rest p g.first g.after g.later → Going b s k old n new p c q v r
+            go (inl t) =
+                rw (to-conditions t)
+                (going_on [] nothing-listed [] t.conditions t.follows (record_sites t.more) t.is tt t.valid no_lists
+                (inr (record { more = t.more; of_conditions = t.of_conditions; is = closed_is ∙ t.is-more; valid = t.valid-more; longer = omega (arith, t.longer, ap length t.is-more); sites = refl }))
+                (left_closed ∙ t.sites))
+            go (inr t) =
+                rw (to-more t)
+                (going_on [] nothing-listed [] t.more r.rest [] t.is tt t.valid no_lists (refl, refl) (left_closed ∙ (t.sites ∙ sym (append-nil (record_sites t.more)))))
 
-        pub resumed-less : length s ≤ 32768 → to_go (length s) next v < to_go (length s) i next
-        resumed-less l = go g.stage
+        pub resumed-less : length s ≤ 32768 → to_go (length s) p v < to_go (length s) i next
+        resumed-less l = go closed_inside
           where
-            go : Stage s r.rest i next g.first g.after g.later → to_go (length s) next v < to_go (length s) i next
-            go (own a b c) = absurd (e a)
-            go (of_result t) = subst (λ (p : ℕ). to_go (length s) next p < to_go (length s) i next) (sym (to-conditions t)) (less_back (length s) l i next going_within t.passed)
-            go (of_conditions t) = less-out (length s) l i next v (to-more t) (before_more t)
+            go : InResult s r.rest i p g.first g.after g.later ⊎ InConditions s r.rest p g.first g.after g.later → to_go (length s) p v < to_go (length s) i next
+            go (inl t) = rw (to-conditions t, e) (less_back (length s) l i p going_within t.passed)
+            go (inr t) = rw (to-more t, e) (less-out (length s) l i p (before_more p t))

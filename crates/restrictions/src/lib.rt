@@ -2,7 +2,7 @@
 // That a body has at most 32,768 bytes stays a clause: in a struct it would be opened at each byte.
 #![tactic(auto)]
 
-ghost use Rattle.std.specs.Prelude.{◌≡◌, List, ℕ, ◌+◌, ◌<◌, ◌≤◌, length, drop};
+ghost use Rattle.std.specs.Prelude.{◌≡◌, List, ℕ, ◌+◌, ◌<◌, ◌≤◌, length, drop, Some, None};
 ghost use Rattle.program.specs.Encode.{put_terms};
 ghost use Rattle.program.specs.Limits.{Mode};
 ghost use Rattle.image.specs.Parts.{Passes, TermsAt, SentenceAt, FunctionsAt};
@@ -106,16 +106,17 @@ fn opened(m: u8) -> usize
     if m == 7 { 1 } else { 2 }
 }
 
-// Where a sentence goes on after its conditions: at p, past its result, if m closes that, and 0 if it closes them.
-fn after_conditions(m: u8, p: usize) -> usize
-    ensures { ((m ≡ 15) → result ≡ p) × ((m ≡ 15 → ⊥) → result ≡ 0) }
+// Where a sentence goes on after its conditions: at p, past its result, if m closes that, and nowhere if it closes them.
+fn after_conditions(m: u8, p: usize) -> Option<usize>
+    ensures { ((m ≡ 15) → result ≡ Some p) × ((m ≡ 15 → ⊥) → result ≡ None) }
 {
-    if m == 15 { p } else { 0 }
+    if m == 15 { Some(p) } else { None }
 }
 
 // Lists the sites of the records at the start of a part, up to their close, after n others: an outer call before those in
 // its argument, a sentence's result before its conditions, none of a pattern. The part stands at `at` of the body. A list
-// inside is a part of this one, and `lists` of them begin at i; an empty one has only its close. In a sentence, `next` is where its result or conditions lead.
+// inside is a part of this one, and `lists` of them begin at i; an empty one has only its close. In a sentence, `next` is
+// where its result or conditions lead.
 fn collect_call_sites(part: &[u8], at: usize, sentence: usize, sites: &mut [u32], n: usize) -> Walk
     requires { (at + length part.now ≤ 32768) × (sentence < 4096) × RoomFor part.now n (length sites.old) }
     ensures { (b : List ℕ) (r : RecordsAt part.now) → drop at b ≡ part.now → Collected b part.now sentence sites.old n sites.new result r }
@@ -123,7 +124,7 @@ fn collect_call_sites(part: &[u8], at: usize, sentence: usize, sites: &mut [u32]
     let mut i: usize = 0;
     let mut k = n;
     let mut lists: usize = 0;
-    let mut next: usize = 0;
+    let mut next: Option<usize> = None;
     loop {
         let x = &part[i..];
         let m = x[0];
@@ -149,18 +150,17 @@ fn collect_call_sites(part: &[u8], at: usize, sentence: usize, sites: &mut [u32]
             i += call_argument(x);
             lists = 1;
         } else if m == 10 {
-            next = i + conditions_start(x);
+            next = Some(i + conditions_start(x));
             i += result_start(x);
         } else if m < 12 {
             i += 9;
             lists = opened(m);
-        } else if next == 0 {
-            i += 1;
-            return Walk { at: i, count: k };
-        } else {
-            let p = next;
+        } else if let Some(p) = next {
             next = after_conditions(m, i + 1);
             i = p;
+        } else {
+            i += 1;
+            return Walk { at: i, count: k };
         }
     }
 }
@@ -182,6 +182,8 @@ pub fn sentence_sites(b: &[u8], at: usize, sentence: usize, sites: &mut [u32], n
 }
 
 // The same of all functions, which stand from `from` to the end of the body b; their sentences are numbered as they come.
+// It is one walk over the records, whose marks say which of them is a sentence that is counted, so that no range or
+// iterator knows how many there are.
 pub fn program_sites(b: &[u8], from: usize, sites: &mut [u32], n: usize) -> usize
     requires { (length b.now ≤ 32768) × (from ≤ length b.now) × RoomForFunctions b.now from n (length sites.old) }
     ensures { (h : FunctionsAt (drop from b.now)) → Appended b.now sites.old n result sites.new (held_sites 0 (own_sentences h.functions)) }

@@ -284,7 +284,6 @@ overflow_add-i-then-m-eq10 t c =
     let m = c.if-m-eq10.true in
     let y = c.conditions_start in
     let a = c.result_start-i in
-    let d = conditions-fits g u m y.result (y.ensures (sentence-part g u m)) in
     let f = result_fits g u m y.result (y.ensures (sentence-part g u m)) a.result (a.ensures (sentence-part g u m)) in
     omega (arith, f, c.requires.0)
 
@@ -297,7 +296,6 @@ loop-lists-preserved-then-m-eq10 t c =
     let m = c.if-m-eq10.true in
     let y = c.conditions_start in
     let a = c.result_start-i in
-    let d = conditions-fits g u m y.result (y.ensures (sentence-part g u m)) in
     let f = result_fits g u m y.result (y.ensures (sentence-part g u m)) a.result (a.ensures (sentence-part g u m)) in
     (f.1, λ l. omega (arith, f), λ b r e. let g = going b r e in sentence-entered g u m y.result (y.ensures (sentence-part g u m)) a.result (a.ensures (sentence-part g u m)))
 
@@ -310,9 +308,8 @@ loop-lists-smaller-then-m-eq10 t c =
     let m = c.if-m-eq10.true in
     let y = c.conditions_start in
     let a = c.result_start-i in
-    let d = conditions-fits g u m y.result (y.ensures (sentence-part g u m)) in
     let f = result_fits g u m y.result (y.ensures (sentence-part g u m)) a.result (a.ensures (sentence-part g u m)) in
-    less_in (length c.args.part.now) (omega (arith, c.requires.0)) c.loop-lists.i (c.loop-lists.i + a.result) c.loop-lists.next (c.loop-lists.i + y.result) (none_before g u m) (omega (arith, f)) f.1 (omega (arith, d), omega (arith, f))
+    rw (none_before g u m) (less_in (length c.args.part.now) (omega (arith, c.requires.0)) c.loop-lists.i (c.loop-lists.i + a.result) (c.loop-lists.i + y.result) (omega (arith, f)) f.1 (omega (arith, f)))
 
 pub overflow_add-i-then-m-lt12 : goal.overflow_add-i-then-m-lt12
 overflow_add-i-then-m-lt12 t c =
@@ -341,31 +338,31 @@ loop-lists-smaller-then-m-lt12 t c =
     let f = inside-fits g u c.if-m-lt7.false c.if-m-eq8.false c.if-m-eq10.false c.if-m-lt12.true in
     less-on (length c.args.part.now) (omega (arith, c.requires.0)) c.loop-lists.i _ c.loop-lists.next (omega arith) f (stands g) (stands (lists-opened g u c.if-m-lt7.false c.if-m-eq8.false c.if-m-eq10.false c.if-m-lt12.true c.opened-lists.result c.opened-lists.ensures))
 
-pub overflow_add-i-then-next-eq0 : goal.overflow_add-i-then-next-eq0
-overflow_add-i-then-next-eq0 t c =
+pub overflow_add-i-in_default : goal.overflow_add-i-in_default
+overflow_add-i-in_default t c =
     let going : (b : List ℕ) (r : RecordsAt c.args.part.now) → drop c.args.at b ≡ c.args.part.now → Going b c.args.part.now c.args.sentence c.args.sites.now c.args.n c.loop-lists.sites c.loop-lists.i c.loop-lists.k c.loop-lists.lists c.loop-lists.next r = λ b r e. c.loop-lists.invariant.2 b r e in
     let the_going : Going (body_with c.args.at c.args.part.now) c.args.part.now c.args.sentence c.args.sites.now c.args.n c.loop-lists.sites c.loop-lists.i c.loop-lists.k c.loop-lists.lists c.loop-lists.next c.requires.2.reading = going (body_with c.args.at c.args.part.now) c.requires.2.reading (body_with_lem c.args.at c.args.part.now) in
     let g = the_going in
     omega (arith, going_within g, c.requires.0)
 
-pub shape_of-sites-then-next-eq0 : goal.shape_of-sites-then-next-eq0
-shape_of-sites-then-next-eq0 t c =
+pub shape_of-sites-in_default : goal.shape_of-sites-in_default
+shape_of-sites-in_default t c =
     let going : (b : List ℕ) (r : RecordsAt c.args.part.now) → drop c.args.at b ≡ c.args.part.now → Going b c.args.part.now c.args.sentence c.args.sites.now c.args.n c.loop-lists.sites c.loop-lists.i c.loop-lists.k c.loop-lists.lists c.loop-lists.next r = λ b r e. c.loop-lists.invariant.2 b r e in
     let the_going : Going (body_with c.args.at c.args.part.now) c.args.part.now c.args.sentence c.args.sites.now c.args.n c.loop-lists.sites c.loop-lists.i c.loop-lists.k c.loop-lists.lists c.loop-lists.next c.requires.2.reading = going (body_with c.args.at c.args.part.now) c.requires.2.reading (body_with_lem c.args.at c.args.part.now) in
     let g = the_going in
     going_length g
 
-pub returns-then-next-eq0 : goal.returns-then-next-eq0
-returns-then-next-eq0 t c =
+pub returns-in_default : goal.returns-in_default
+returns-in_default t c =
     let going : (b : List ℕ) (r : RecordsAt c.args.part.now) → drop c.args.at b ≡ c.args.part.now → Going b c.args.part.now c.args.sentence c.args.sites.now c.args.n c.loop-lists.sites c.loop-lists.i c.loop-lists.k c.loop-lists.lists c.loop-lists.next r = λ b r e. c.loop-lists.invariant.2 b r e in
     let the_going : Going (body_with c.args.at c.args.part.now) c.args.part.now c.args.sentence c.args.sites.now c.args.n c.loop-lists.sites c.loop-lists.i c.loop-lists.k c.loop-lists.lists c.loop-lists.next c.requires.2.reading = going (body_with c.args.at c.args.part.now) c.requires.2.reading (body_with_lem c.args.at c.args.part.now) in
     let g = the_going in
     let u = c.if-lists-gt0.false in
     let m = c.if-m-lt12.false in
-    λ b r e. going_done (going b r e) u m c.if-next-eq0.true refl refl
+    λ b r e. going_done (going b r e) u m c.in_default.is refl refl
 
-pub overflow_add-i-else-next-eq0 : goal.overflow_add-i-else-next-eq0
-overflow_add-i-else-next-eq0 t c =
+pub overflow_add-i-in-Some : goal.overflow_add-i-in-Some
+overflow_add-i-in-Some t c =
     let going : (b : List ℕ) (r : RecordsAt c.args.part.now) → drop c.args.at b ≡ c.args.part.now → Going b c.args.part.now c.args.sentence c.args.sites.now c.args.n c.loop-lists.sites c.loop-lists.i c.loop-lists.k c.loop-lists.lists c.loop-lists.next r = λ b r e. c.loop-lists.invariant.2 b r e in
     let the_going : Going (body_with c.args.at c.args.part.now) c.args.part.now c.args.sentence c.args.sites.now c.args.n c.loop-lists.sites c.loop-lists.i c.loop-lists.k c.loop-lists.lists c.loop-lists.next c.requires.2.reading = going (body_with c.args.at c.args.part.now) c.requires.2.reading (body_with_lem c.args.at c.args.part.now) in
     let g = the_going in
@@ -378,9 +375,9 @@ loop-lists-preserved t c =
     let g = the_going in
     let u = c.if-lists-gt0.false in
     let m = c.if-m-lt12.false in
-    let n = c.if-next-eq0.false in
+    let n = c.in-Some in
     let v = c.after_conditions-next in
-    (omega (arith, going_within (resumed g u m n v.result v.ensures)), λ l. omega (arith, l, u), λ b r e. resumed (going b r e) u m n v.result v.ensures)
+    (omega (arith, going_within (resumed g u m n.p n.is v.result v.ensures)), λ l. omega (arith, l, u), λ b r e. resumed (going b r e) u m n.p n.is v.result v.ensures)
 
 pub loop-lists-smaller : goal.loop-lists-smaller
 loop-lists-smaller t c =
@@ -389,6 +386,6 @@ loop-lists-smaller t c =
     let g = the_going in
     let u = c.if-lists-gt0.false in
     let m = c.if-m-lt12.false in
-    let n = c.if-next-eq0.false in
+    let n = c.in-Some in
     let v = c.after_conditions-next in
-    resumed-less g u m n v.result v.ensures (omega (arith, c.requires.0))
+    resumed-less g u m n.p n.is v.result v.ensures (omega (arith, c.requires.0))

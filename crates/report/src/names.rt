@@ -19,6 +19,28 @@ use crate::entries::Entries;
 use index::table::{Kind, head_site};
 use text::writer::Writer;
 
+// What stands before a name: a flag, as the definition of the line has it (`lead`).
+fn put_lead(out: &mut Writer<'_>, first: bool)
+    requires { out.old.filled + 17 ≤ limit }
+    ensures { (out.new ≡ written out.old (lead first)) × (out.new.filled ≤ out.old.filled + 17) }
+{
+    if first {
+        return out.put_bytes(b"uncharacterised: ");
+    }
+    out.put_bytes(b", ");
+}
+
+// The end of the line, if it has a name.
+fn put_line_end(out: &mut Writer<'_>, count: usize)
+    requires { out.old.filled < limit }
+    ensures { (out.new ≡ written out.old (line_end (eqb count 0))) × (out.new.filled ≤ out.old.filled + 1) }
+{
+    if count == 0 {
+        return;
+    }
+    out.put_byte(b'\n');
+}
+
 impl<'b, 'w> Entries<'b, 'w> {
     // Whether a site uncharacterises the f-th function.
     fn has_call_in_argument(&self, f: usize) -> bool
@@ -64,20 +86,7 @@ impl<'b, 'w> Entries<'b, 'w> {
     {
         self.is_uncharacterised(root, f) && !self.is_named_before(root, f)
     }
-}
 
-// What stands before a name: a flag, as the definition of the line has it (`lead`).
-fn put_lead(out: &mut Writer<'_>, first: bool)
-    requires { out.old.filled + 17 ≤ limit }
-    ensures { (out.new ≡ written out.old (lead first)) × (out.new.filled ≤ out.old.filled + 17) }
-{
-    if first {
-        return out.put_bytes(b"uncharacterised: ");
-    }
-    out.put_bytes(b", ");
-}
-
-impl<'b, 'w> Entries<'b, 'w> {
     // The f-th function, if it is listed; the number of names is counted on.
     fn put_if_uncharacterised(
         &self,
@@ -98,20 +107,7 @@ impl<'b, 'w> Entries<'b, 'w> {
         self.put_name(f, out);
         count + 1
     }
-}
 
-// The end of the line, if it has a name.
-fn put_line_end(out: &mut Writer<'_>, count: usize)
-    requires { out.old.filled < limit }
-    ensures { (out.new ≡ written out.old (line_end (eqb count 0))) × (out.new.filled ≤ out.old.filled + 1) }
-{
-    if count == 0 {
-        return;
-    }
-    out.put_byte(b'\n');
-}
-
-impl<'b, 'w> Entries<'b, 'w> {
     // The line of uncharacterised functions, each name once; nothing, if there is none. It hands back how many there are.
     pub fn put_uncharacterised(&self, root: usize, out: &mut Writer<'_>) -> usize
         requires { SomeReads self.now × (out.old.filled + 8192 * 32800 ≤ limit) }

@@ -10,7 +10,7 @@
    Threads: nothing is kept between calls, so that any number of threads may call at once, each with its own output,
    work, report and expression; an image is only read and may be shared.
 
-   Memory and code: docs/BINDINGS.md. The archive needs memcpy, memmove and memset from outside, and holds x86-64 code.
+   Memory and code: docs/BINDINGS.md. The archive needs one symbol from outside, memset, and holds x86-64 code.
 
    C90 and later, C++11 and later; the archive aside, all of it stands in this file, and functions that are not used
    leave nothing in the program. */

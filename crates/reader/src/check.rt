@@ -5,8 +5,8 @@ ghost use Rattle.program.specs.Automaton.{run, Stack};
 ghost use Rattle.program.specs.Decode.{decode, decode_sized};
 ghost use Rattle.reader.specs.Tally.{checked_of, tally_of, top_of, Stored, advanced, tally_end};
 
-use crate::flat::over_terms;
-use crate::turns::{Frame, Frames, turn};
+use crate::at::At;
+use crate::turns::{Frame, Frames};
 use image::number::{read16, read32};
 use program::Refusal;
 
@@ -101,9 +101,9 @@ pub fn check_body(b: &[u8]) -> Result<Counts, Refusal>
         first: 0,
     };
     while at < b.len() {
-        let t = over_terms(b, &stack, top, at);
+        let t = At { b, p: at }.over_terms(&stack, top);
         let e = top_of(&stack, t.n);
-        let g = turn(b, t.at, c.functions, e)?;
+        let g = At { b, p: t.at }.turn(c.functions, e)?;
         top = store(&mut stack, t.n.saturating_sub(1), g.frames);
         c = advanced(c, e, b[t.at], b.len() - t.at);
         at = g.to;

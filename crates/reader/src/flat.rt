@@ -5,60 +5,9 @@ ghost use Rattle.program.specs.Automaton.{Stack};
 ghost use Rattle.reader.specs.Steps.{TermsAt};
 ghost use Rattle.reader.specs.Tally.{Alike, Ends, Stops};
 
+use crate::at::At;
 use crate::rules::{code_refusal, name_refusal, span_refusal};
 use crate::turns::Frame;
-
-// Past the name at p, where one stands whole before another byte.
-fn name_end(b: &[u8], p: usize, number: bool) -> Option<usize>
-    requires { p < length b.now }
-    ensures { (x : Stack) → Ends b.now p (Stack.name number x) result x }
-{
-    name_refusal(b, p, number).ok()?;
-    let end = p + 1 + usize::from(b[p]);
-    (end < b.len()).then_some(end)
-}
-
-// Past the code at p, where one stands whole before another byte.
-fn code_end(b: &[u8], p: usize) -> Option<usize>
-    requires { p < length b.now }
-    ensures { (x : Stack) → Ends b.now p (Stack.code x) result x }
-{
-    code_refusal(b, p).ok()?;
-    let end = p + 4;
-    (end < b.len()).then_some(end)
-}
-
-// Past the flat term at p, where one stands whole before another byte.
-fn flat_end(b: &[u8], p: usize) -> Option<usize>
-    requires { p < length b.now }
-    ensures { (m : Mode) (d : ℕ) (x : Stack) → Ends b.now p (Stack.terms m d x) result (Stack.terms m d x) }
-{
-    let m = b[p];
-    if !matches!(m, 1..=6) {
-        return None;
-    }
-    if b.len() - p < 10 {
-        return None;
-    }
-    span_refusal(b, p + 1).ok()?;
-    match m {
-        1 => code_end(b, p + 9),
-        3 => name_end(b, p + 9, true),
-        _ => name_end(b, p + 9, false),
-    }
-}
-
-// Past the flat terms from `at` on.
-fn flat_terms(b: &[u8], at: usize) -> usize
-    requires { at < length b.now }
-    ensures { (at ≤ result) × (result < length b.now) × ((m : Mode) (d : ℕ) (x : Stack) → Alike b.now at (Stack.terms m d x) result (Stack.terms m d x)) }
-{
-    let mut p = at;
-    while let Some(end) = flat_end(b, p) {
-        p = end;
-    }
-    p
-}
 
 // Whether a frame is terms.
 fn is_terms(e: Frame) -> bool
@@ -74,56 +23,113 @@ pub struct Spot {
     pub at: usize,
 }
 
-// Past the count and the names at `at`, where they stand whole before another byte.
-fn counted_end(b: &[u8], at: usize) -> Option<usize>
-    requires { at < length b.now }
-    ensures { (x : Stack) → Ends b.now at (Stack.counted x) result x }
-{
-    if b.len() - at < 2 {
-        return None;
+impl<'b> At<'b> {
+    // Past the name here, where one stands whole before another byte.
+    fn name_end(&self, number: bool) -> Option<usize>
+        ensures { (x : Stack) → Ends self.now.b.now self.now.p (Stack.name number x) result x }
+    {
+        name_refusal(self.b, self.p, number).ok()?;
+        let end = self.p + 1 + usize::from(self.b[self.p]);
+        (end < self.b.len()).then_some(end)
     }
-    let mut p = at + 1;
-    for i in 0..b[at] {
-        p = name_end(b, p, false)?;
-    }
-    Some(p)
-}
 
-// Past the names of a declaration, where its count is on top: tried once, so that a refusal costs no more than twice the names.
-fn over_names(b: &[u8], s: &[Frame], n: usize, at: usize) -> Spot
-    requires { (at < length b.now) × (0 < n) × (n ≤ length s.now) }
-    ensures { Stops b.now s.now n at result }
-{
-    if !matches!(s[n - 1], Frame::Counted) {
-        return Spot { n, at };
+    // Past the code here, where one stands whole before another byte.
+    fn code_end(&self) -> Option<usize>
+        ensures { (x : Stack) → Ends self.now.b.now self.now.p (Stack.code x) result x }
+    {
+        code_refusal(self.b, self.p).ok()?;
+        let end = self.p + 4;
+        (end < self.b.len()).then_some(end)
     }
-    match counted_end(b, at) {
-        Some(end) => Spot { n: n - 1, at: end },
-        None => Spot { n, at },
-    }
-}
 
-// Past flat terms, closes and declared names, which push no frame and count for nothing, up to any other byte. The height falls only
-// where a close stands.
-pub fn over_terms(b: &[u8], s: &[Frame], top: usize, at: usize) -> Spot
-    requires { (at < length b.now) × (top ≤ length s.now) }
-    ensures { Stops b.now s.now top at result }
-{
-    let mut n = top;
-    let mut p = at;
-    while 0 < n {
-        if !is_terms(s[n - 1]) {
-            return over_names(b, s, n, p);
+    // Past the flat term here, where one stands whole before another byte.
+    fn flat_end(&self) -> Option<usize>
+        ensures { (m : Mode) (d : ℕ) (x : Stack) → Ends self.now.b.now self.now.p (Stack.terms m d x) result (Stack.terms m d x) }
+    {
+        let m = self.b[self.p];
+        if !matches!(m, 1..=6) {
+            return None;
         }
-        p = flat_terms(b, p);
-        if b[p] != 15 {
-            return Spot { n, at: p };
+        if self.b.len() - self.p < 10 {
+            return None;
         }
-        if b.len() - p < 2 {
-            return Spot { n, at: p };
+        span_refusal(self.b, self.p + 1).ok()?;
+        let word = At {
+            b: self.b,
+            p: self.p + 9,
+        };
+        match m {
+            1 => word.code_end(),
+            3 => word.name_end(true),
+            _ => word.name_end(false),
         }
-        n -= 1;
-        p += 1;
     }
-    Spot { n, at: p }
+
+    // Past the flat terms from here on.
+    fn flat_terms(&self) -> usize
+        ensures { (self.now.p ≤ result) × (result < length self.now.b.now) × ((m : Mode) (d : ℕ) (x : Stack) → Alike self.now.b.now self.now.p (Stack.terms m d x) result (Stack.terms m d x)) }
+    {
+        let b = self.b;
+        let mut p = self.p;
+        while let Some(end) = (At { b, p }).flat_end() {
+            p = end;
+        }
+        p
+    }
+
+    // Past the count and the names here, where they stand whole before another byte.
+    fn counted_end(&self) -> Option<usize>
+        ensures { (x : Stack) → Ends self.now.b.now self.now.p (Stack.counted x) result x }
+    {
+        let b = self.b;
+        if b.len() - self.p < 2 {
+            return None;
+        }
+        let mut p = self.p + 1;
+        for i in 0..b[self.p] {
+            p = At { b, p }.name_end(false)?;
+        }
+        Some(p)
+    }
+
+    // Past the names of a declaration, where its count is on top: tried once, so that a refusal costs no more than twice the names.
+    fn over_names(&self, s: &[Frame], n: usize) -> Spot
+        requires { (0 < n) × (n ≤ length s.now) }
+        ensures { Stops self.now.b.now s.now n self.now.p result }
+    {
+        let at = self.p;
+        if !matches!(s[n - 1], Frame::Counted) {
+            return Spot { n, at };
+        }
+        match self.counted_end() {
+            Some(end) => Spot { n: n - 1, at: end },
+            None => Spot { n, at },
+        }
+    }
+
+    // Past flat terms, closes and declared names, which push no frame and count for nothing, up to any other byte. The height falls only
+    // where a close stands.
+    pub fn over_terms(&self, s: &[Frame], top: usize) -> Spot
+        requires { top ≤ length s.now }
+        ensures { Stops self.now.b.now s.now top self.now.p result }
+    {
+        let b = self.b;
+        let mut n = top;
+        let mut p = self.p;
+        while 0 < n {
+            if !is_terms(s[n - 1]) {
+                return At { b, p }.over_names(s, n);
+            }
+            p = At { b, p }.flat_terms();
+            if b[p] != 15 {
+                return Spot { n, at: p };
+            }
+            if b.len() - p < 2 {
+                return Spot { n, at: p };
+            }
+            n -= 1;
+            p += 1;
+        }
+        Spot { n, at: p }
+    }
 }

@@ -1,9 +1,10 @@
 // One turn of reading: what stands at a place, and what is still to come after it. Marks are bytes, as document 01 numbers them.
-ghost use Rattle.std.specs.Prelude.{◌≡◌, ℕ, ◌+◌, ◌-◌, ◌<◌, ◌≤◌, length, get_or, true};
+ghost use Rattle.std.specs.Prelude.{◌≡◌, ℕ, ◌+◌, ◌-◌, ◌<◌, ◌≤◌, get_or, true};
 ghost use Rattle.program.specs.Automaton.{Stack};
 ghost use Rattle.reader.specs.Steps.{push, span_step, name_step, DoesAt, Does, TermsAt, bottom as bottomOf, functions_after};
 ghost use Rattle.reader.specs.Tally.{TurnDoes};
 
+use crate::at::At;
 use crate::rules::{code_refusal, name_refusal, span_refusal};
 use program::Refusal;
 
@@ -47,206 +48,184 @@ fn go(to: usize, frames: Frames) -> Result<Push, Refusal>
     Ok(Push { to, frames })
 }
 
-// After the mark at p: its span, then the frames.
-#[tactic(auto, unfolding(crate::specs::Steps::span_step, crate::specs::Steps::step_of))]
-fn spanned(b: &[u8], p: usize, frames: Frames) -> Result<Push, Refusal>
-    requires { p < length b.now }
-    ensures { result ≡ span_step b.now p frames }
-{
-    span_refusal(b, p + 1)?;
-    go(p + 9, frames)
-}
-
-// The name at p, then the frames.
-#[tactic(auto, unfolding(crate::specs::Steps::name_step, crate::specs::Steps::step_of))]
-fn named(b: &[u8], p: usize, number: bool, frames: Frames) -> Result<Push, Refusal>
-    requires { p < length b.now }
-    ensures { result ≡ name_step b.now p number frames }
-{
-    name_refusal(b, p, number)?;
-    go(p + 1 + usize::from(b[p]), frames)
-}
-
-// A turn at terms, t, where no bracket, call or block begins.
-fn turn_terms(b: &[u8], p: usize, t: Frame) -> Result<Push, Refusal>
-    requires { (p < length b.now) × TermsAt t × (7 ≤ get_or b.now p 0 → 9 < get_or b.now p 0) }
-    ensures { Does b.now p t result }
-{
-    match b[p] {
-        1 => spanned(b, p, Frames::Two(t, Frame::Code)),
-        2 | 4..=6 => spanned(b, p, Frames::Two(t, Frame::Name)),
-        3 => spanned(b, p, Frames::Two(t, Frame::Number)),
-        15 => go(p + 1, Frames::Nothing),
-        _ => Refusal::at(5, p),
+impl<'b> At<'b> {
+    // After the mark here: its span, then the frames.
+    #[tactic(auto, unfolding(crate::specs::Steps::span_step, crate::specs::Steps::step_of))]
+    fn spanned(&self, frames: Frames) -> Result<Push, Refusal>
+        ensures { result ≡ span_step self.now.b.now self.now.p frames }
+    {
+        span_refusal(self.b, self.p + 1)?;
+        go(self.p + 9, frames)
     }
-}
 
-// A turn at terms of a pattern with d around them, where a call or block is refused however deep it stands.
-fn turn_pattern(b: &[u8], p: usize, d: u8) -> Result<Push, Refusal>
-    requires { p < length b.now }
-    ensures { Does b.now p (Frame.Pattern d) result }
-{
-    let t = Frame::Pattern(d);
-    match b[p] {
-        7 => {
-            if d < 32 {
-                spanned(b, p, Frames::Two(t, Frame::Pattern(d + 1)))
-            } else {
-                Refusal::at(10, p)
-            }
+    // The name here, then the frames.
+    #[tactic(auto, unfolding(crate::specs::Steps::name_step, crate::specs::Steps::step_of))]
+    fn named(&self, number: bool, frames: Frames) -> Result<Push, Refusal>
+        ensures { result ≡ name_step self.now.b.now self.now.p number frames }
+    {
+        name_refusal(self.b, self.p, number)?;
+        go(self.p + 1 + usize::from(self.b[self.p]), frames)
+    }
+
+    // A turn at terms, t, where no bracket, call or block begins. Inlined: as a call it lets reading take up to a tenth more instructions.
+    #[inline]
+    fn turn_terms(&self, t: Frame) -> Result<Push, Refusal>
+        requires { TermsAt t × (7 ≤ get_or self.now.b.now self.now.p 0 → 9 < get_or self.now.b.now self.now.p 0) }
+        ensures { Does self.now.b.now self.now.p t result }
+    {
+        match self.b[self.p] {
+            1 => self.spanned(Frames::Two(t, Frame::Code)),
+            2 | 4..=6 => self.spanned(Frames::Two(t, Frame::Name)),
+            3 => self.spanned(Frames::Two(t, Frame::Number)),
+            15 => go(self.p + 1, Frames::Nothing),
+            _ => Refusal::at(5, self.p),
         }
-        8 | 9 => Refusal::at(9, p),
-        _ => turn_terms(b, p, t),
     }
-}
 
-// A turn at terms of a result with d around them.
-fn turn_result(b: &[u8], p: usize, d: u8) -> Result<Push, Refusal>
-    requires { p < length b.now }
-    ensures { Does b.now p (Frame.Result d) result }
-{
-    let t = Frame::Result(d);
-    let m = b[p];
-    if !matches!(m, 7..=9) {
-        return turn_terms(b, p, t);
-    }
-    if 32 <= d {
-        return Refusal::at(10, p);
-    }
-    let inner = Frame::Result(d + 1);
-    match m {
-        7 => spanned(b, p, Frames::Two(t, inner)),
-        8 => spanned(b, p, Frames::Three(t, inner, Frame::Name)),
-        _ => spanned(b, p, Frames::Three(t, Frame::Sentences(d + 1), inner)),
-    }
-}
-
-// A turn at a sentence's conditions and result.
-fn turn_conditions(b: &[u8], p: usize, d: u8) -> Result<Push, Refusal>
-    requires { p < length b.now }
-    ensures { Does b.now p (Frame.Conditions d) result }
-{
-    let t = Frame::Result(d);
-    match b[p] {
-        11 => spanned(
-            b,
-            p,
-            Frames::Three(Frame::Conditions(d), Frame::Pattern(d), t),
-        ),
-        12 => go(p + 1, Frames::One(t)),
-        _ => Refusal::at(5, p),
-    }
-}
-
-// A turn at sentences.
-fn turn_sentences(b: &[u8], p: usize, d: u8) -> Result<Push, Refusal>
-    requires { p < length b.now }
-    ensures { Does b.now p (Frame.Sentences d) result }
-{
-    let s = Frame::Sentences(d);
-    match b[p] {
-        10 => spanned(
-            b,
-            p,
-            Frames::Three(s, Frame::Conditions(d), Frame::Pattern(d)),
-        ),
-        15 => go(p + 1, Frames::Nothing),
-        _ => Refusal::at(5, p),
-    }
-}
-
-// A turn below all frames, where declarations stand as long as there are no functions.
-fn turn_bottom(b: &[u8], p: usize, functions: usize) -> Result<Push, Refusal>
-    requires { p < length b.now }
-    ensures { DoesAt b.now p (bottomOf functions) (bottomOf (functions_after (get_or b.now p 0) functions)) result }
-{
-    match b[p] {
-        17 => {
-            if functions == 0 {
-                spanned(b, p, Frames::One(Frame::Counted))
-            } else {
-                Refusal::at(5, p)
+    // A turn at terms of a pattern with d around them, where a call or block is refused however deep it stands.
+    fn turn_pattern(&self, d: u8) -> Result<Push, Refusal>
+        ensures { Does self.now.b.now self.now.p (Frame.Pattern d) result }
+    {
+        let t = Frame::Pattern(d);
+        match self.b[self.p] {
+            7 => {
+                if d < 32 {
+                    self.spanned(Frames::Two(t, Frame::Pattern(d + 1)))
+                } else {
+                    Refusal::at(10, self.p)
+                }
             }
+            8 | 9 => Refusal::at(9, self.p),
+            _ => self.turn_terms(t),
         }
-        18 => spanned(
-            b,
-            p,
-            Frames::Three(Frame::Sentences(0), Frame::Name, Frame::Visibility),
-        ),
-        _ => Refusal::at(5, p),
     }
-}
 
-// A turn at a character's code.
-fn turn_code(b: &[u8], p: usize) -> Result<Push, Refusal>
-    requires { p < length b.now }
-    ensures { Does b.now p Frame.Code result }
-{
-    code_refusal(b, p)?;
-    go(p + 4, Frames::Nothing)
-}
-
-// A turn at a function's visibility.
-fn turn_visibility(b: &[u8], p: usize) -> Result<Push, Refusal>
-    requires { p < length b.now }
-    ensures { Does b.now p Frame.Visibility result }
-{
-    if b[p] < 2 {
-        go(p + 1, Frames::Nothing)
-    } else {
-        Refusal::at(5, p)
+    // A turn at terms of a result with d around them.
+    fn turn_result(&self, d: u8) -> Result<Push, Refusal>
+        ensures { Does self.now.b.now self.now.p (Frame.Result d) result }
+    {
+        let t = Frame::Result(d);
+        let m = self.b[self.p];
+        if !matches!(m, 7..=9) {
+            return self.turn_terms(t);
+        }
+        if 32 <= d {
+            return Refusal::at(10, self.p);
+        }
+        let inner = Frame::Result(d + 1);
+        match m {
+            7 => self.spanned(Frames::Two(t, inner)),
+            8 => self.spanned(Frames::Three(t, inner, Frame::Name)),
+            _ => self.spanned(Frames::Three(t, Frame::Sentences(d + 1), inner)),
+        }
     }
-}
 
-// A turn at a declaration's count.
-fn turn_counted(b: &[u8], p: usize) -> Result<Push, Refusal>
-    requires { p < length b.now }
-    ensures { Does b.now p Frame.Counted result }
-{
-    match b[p] {
-        0 => go(p + 1, Frames::Nothing),
-        n => go(p + 1, Frames::One(Frame::Names(n - 1))),
+    // A turn at a sentence's conditions and result.
+    fn turn_conditions(&self, d: u8) -> Result<Push, Refusal>
+        ensures { Does self.now.b.now self.now.p (Frame.Conditions d) result }
+    {
+        let t = Frame::Result(d);
+        match self.b[self.p] {
+            11 => self.spanned(Frames::Three(Frame::Conditions(d), Frame::Pattern(d), t)),
+            12 => go(self.p + 1, Frames::One(t)),
+            _ => Refusal::at(5, self.p),
+        }
     }
-}
 
-// A turn at a declaration's names.
-fn turn_names(b: &[u8], p: usize, n: u8) -> Result<Push, Refusal>
-    requires { p < length b.now }
-    ensures { Does b.now p (Frame.Names n) result }
-{
-    if n == 0 {
-        named(b, p, false, Frames::Nothing)
-    } else {
-        named(b, p, false, Frames::One(Frame::Names(n - 1)))
+    // A turn at sentences.
+    fn turn_sentences(&self, d: u8) -> Result<Push, Refusal>
+        ensures { Does self.now.b.now self.now.p (Frame.Sentences d) result }
+    {
+        let s = Frame::Sentences(d);
+        match self.b[self.p] {
+            10 => self.spanned(Frames::Three(s, Frame::Conditions(d), Frame::Pattern(d))),
+            15 => go(self.p + 1, Frames::Nothing),
+            _ => Refusal::at(5, self.p),
+        }
     }
-}
 
-// A turn at a frame.
-fn turn_frame(b: &[u8], p: usize, e: Frame) -> Result<Push, Refusal>
-    requires { p < length b.now }
-    ensures { Does b.now p e result }
-{
-    match e {
-        Frame::Result(d) => turn_result(b, p, d),
-        Frame::Pattern(d) => turn_pattern(b, p, d),
-        Frame::Conditions(d) => turn_conditions(b, p, d),
-        Frame::Sentences(d) => turn_sentences(b, p, d),
-        Frame::Name => named(b, p, false, Frames::Nothing),
-        Frame::Number => named(b, p, true, Frames::Nothing),
-        Frame::Names(n) => turn_names(b, p, n),
-        Frame::Code => turn_code(b, p),
-        Frame::Visibility => turn_visibility(b, p),
-        Frame::Counted => turn_counted(b, p),
+    // A turn below all frames, where declarations stand as long as there are no functions.
+    fn turn_bottom(&self, functions: usize) -> Result<Push, Refusal>
+        ensures { DoesAt self.now.b.now self.now.p (bottomOf functions) (bottomOf (functions_after (get_or self.now.b.now self.now.p 0) functions)) result }
+    {
+        match self.b[self.p] {
+            17 => {
+                if functions == 0 {
+                    self.spanned(Frames::One(Frame::Counted))
+                } else {
+                    Refusal::at(5, self.p)
+                }
+            }
+            18 => self.spanned(Frames::Three(Frame::Sentences(0), Frame::Name, Frame::Visibility)),
+            _ => Refusal::at(5, self.p),
+        }
     }
-}
 
-// A turn at the frame on top, or below all frames, where so many functions are passed.
-pub fn turn(b: &[u8], p: usize, functions: usize, top: Option<Frame>) -> Result<Push, Refusal>
-    requires { p < length b.now }
-    ensures { TurnDoes b.now p functions top result }
-{
-    match top {
-        Some(e) => turn_frame(b, p, e),
-        None => turn_bottom(b, p, functions),
+    // A turn at a character's code.
+    fn turn_code(&self) -> Result<Push, Refusal>
+        ensures { Does self.now.b.now self.now.p Frame.Code result }
+    {
+        code_refusal(self.b, self.p)?;
+        go(self.p + 4, Frames::Nothing)
+    }
+
+    // A turn at a function's visibility.
+    fn turn_visibility(&self) -> Result<Push, Refusal>
+        ensures { Does self.now.b.now self.now.p Frame.Visibility result }
+    {
+        if self.b[self.p] < 2 {
+            go(self.p + 1, Frames::Nothing)
+        } else {
+            Refusal::at(5, self.p)
+        }
+    }
+
+    // A turn at a declaration's count.
+    fn turn_counted(&self) -> Result<Push, Refusal>
+        ensures { Does self.now.b.now self.now.p Frame.Counted result }
+    {
+        match self.b[self.p] {
+            0 => go(self.p + 1, Frames::Nothing),
+            n => go(self.p + 1, Frames::One(Frame::Names(n - 1))),
+        }
+    }
+
+    // A turn at a declaration's names.
+    fn turn_names(&self, n: u8) -> Result<Push, Refusal>
+        ensures { Does self.now.b.now self.now.p (Frame.Names n) result }
+    {
+        if n == 0 {
+            self.named(false, Frames::Nothing)
+        } else {
+            self.named(false, Frames::One(Frame::Names(n - 1)))
+        }
+    }
+
+    // A turn at a frame.
+    fn turn_frame(&self, e: Frame) -> Result<Push, Refusal>
+        ensures { Does self.now.b.now self.now.p e result }
+    {
+        match e {
+            Frame::Result(d) => self.turn_result(d),
+            Frame::Pattern(d) => self.turn_pattern(d),
+            Frame::Conditions(d) => self.turn_conditions(d),
+            Frame::Sentences(d) => self.turn_sentences(d),
+            Frame::Name => self.named(false, Frames::Nothing),
+            Frame::Number => self.named(true, Frames::Nothing),
+            Frame::Names(n) => self.turn_names(n),
+            Frame::Code => self.turn_code(),
+            Frame::Visibility => self.turn_visibility(),
+            Frame::Counted => self.turn_counted(),
+        }
+    }
+
+    // A turn at the frame on top, or below all frames, where so many functions are passed.
+    pub fn turn(&self, functions: usize, top: Option<Frame>) -> Result<Push, Refusal>
+        ensures { TurnDoes self.now.b.now self.now.p functions top result }
+    {
+        match top {
+            Some(e) => self.turn_frame(e),
+            None => self.turn_bottom(functions),
+        }
     }
 }

@@ -10,7 +10,7 @@ pub loop-at-init : goal.loop-at-init
 loop-at-init c = state_first _ _ refl
 
 pub over_terms-t-requires : goal.over_terms-t-requires
-over_terms-t-requires c = let l = c.loop-at in (c.loop-at-test.true, omega (arith, state_low c.args.b.now l.stack l.top l.at l.c l.invariant, l.invariant.room))
+over_terms-t-requires c = let l = c.loop-at in omega (arith, state_low c.args.b.now l.stack l.top l.at l.c l.invariant, l.invariant.room)
 
 pub top_of-e-requires : goal.top_of-e-requires
 top_of-e-requires c = let l = c.loop-at in omega (arith, c.over_terms-t.ensures.few, state_low c.args.b.now l.stack l.top l.at l.c l.invariant, l.invariant.room)

@@ -5,12 +5,12 @@ use mathlib.Core.Path.{◌≡◌, refl, sym, ap, ◌∙◌}
 use mathlib.Core.Bool.{Bool, true, false, cond}
 use mathlib.Core.List.{List, ◌∷◌}
 use lib.ListN.{length, get_or, drop}
-use borrow.Author.Tests.{eq-eqb, ne_eqb}
+use borrow.Author.Tests.{ne_eqb}
 use Rattle.std.specs.Int.{from_bool}
 use Rattle.program.specs.Encode.{put_head, put_sentences, put_function}
 use Rattle.image.specs.Parts.{Passes, put_sentence, SentenceAt, FunctionAt}
-use Rattle.output.specs.Items.{Item, after, is_sentence, is_written, sentence_one, kept_one}
-use Rattle.output.proofs.Walking.{written_is, one-is, kept-is}
+use Rattle.output.specs.Items.{Item, after, is_sentence, is_written, kept_one}
+use Rattle.output.proofs.Walking.{written_is, kept-is}
 
 head-mark : (s : List ℕ) (f : FunctionAt s) → (get_or s 0 0 ≡ 18) × (0 < length s)
 unfolding put_function
@@ -54,35 +54,23 @@ pass-close s n1 n2 (Item.own x) = absurd (n1 (own-mark s x).0)
 pass-close s n1 n2 (Item.close k e) = record { fits = (close-mark s k e).1; left = ap (drop 1) e }
 
 -- what a mark decides
-is-sentence : (s : List ℕ) → get_or s 0 0 ≡ 10 → is_sentence s ≡ true
-unfolding is_sentence
-is-sentence s e = eq-eqb (get_or s 0 0) 10 e
-
-not_sentence : (s : List ℕ) → (get_or s 0 0 ≡ 10 → ⊥) → is_sentence s ≡ false
+pub not_sentence : (s : List ℕ) → (get_or s 0 0 ≡ 10 → ⊥) → is_sentence s ≡ false
 unfolding is_sentence
 not_sentence s n = ne_eqb (get_or s 0 0) 10 n
 
-module _ (s : List ℕ) (e : get_or s 0 0 ≡ 10) where
-  pub own-one : 1 ≡ sentence_one s
-  own-one = sym (one-is s true (is-sentence s e))
+module _ (s : List ℕ) (e : is_sentence s ≡ true) (keep : ℕ → Bool) (i : ℕ) (b : Bool) (h : keep i ≡ b) where
+  pub own-kept : cond b 1 0 ≡ kept_one keep i s
+  own-kept = ap (λ (t : Bool). cond t 1 0) (sym h) ∙ sym (kept-is s true e keep i)
 
-  module _ (keep : ℕ → Bool) (i : ℕ) (b : Bool) (h : keep i ≡ b) where
-    pub own-kept : cond b 1 0 ≡ kept_one keep i s
-    own-kept = ap (λ (t : Bool). cond t 1 0) (sym h) ∙ sym (kept-is s true (is-sentence s e) keep i)
+  pub own-written : (w : ℕ) → cond b w 0 ≡ cond (is_written keep i s) w 0
+  own-written w = ap (λ (t : Bool). cond t w 0) (sym (written_is s true e keep i ∙ h))
 
-    pub own-written : (w : ℕ) → cond b w 0 ≡ cond (is_written keep i s) w 0
-    own-written w = ap (λ (t : Bool). cond t w 0) (sym (written_is s true (is-sentence s e) keep i ∙ h))
+module _ (s : List ℕ) (n : is_sentence s ≡ false) (keep : ℕ → Bool) (i : ℕ) where
+  pub other-kept : 0 ≡ kept_one keep i s
+  other-kept = sym (kept-is s false n keep i)
 
-module _ (s : List ℕ) (n : get_or s 0 0 ≡ 10 → ⊥) where
-  pub other-one : 0 ≡ sentence_one s
-  other-one = sym (one-is s false (not_sentence s n))
-
-  module _ (keep : ℕ → Bool) (i : ℕ) where
-    pub other-kept : 0 ≡ kept_one keep i s
-    other-kept = sym (kept-is s false (not_sentence s n) keep i)
-
-    pub other-written : (w : ℕ) → w ≡ cond (is_written keep i s) w 0
-    other-written w = ap (λ (t : Bool). cond t w 0) (sym (written_is s false (not_sentence s n) keep i))
+  pub other-written : (w : ℕ) → w ≡ cond (is_written keep i s) w 0
+  other-written w = ap (λ (t : Bool). cond t w 0) (sym (written_is s false n keep i))
 
 -- a truth value as a number
 pub from_bool-cond : (b : Bool) → from_bool b ≡ cond b 1 0

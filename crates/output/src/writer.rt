@@ -4,7 +4,7 @@ ghost use Rattle.program.specs.Bytes.{put16, put32};
 ghost use Rattle.program.specs.Encode.{put_functions, own_sentence_count, encode};
 ghost use Rattle.image.specs.Parts.{Passes, FunctionsAt, Accepted};
 ghost use Rattle.told.specs.Kept.{is_kept, kept_functions, kept_program};
-ghost use Rattle.output.specs.Items.{Item, after, is_written, sentence_one, kept_one};
+ghost use Rattle.output.specs.Items.{Item, after, is_sentence, is_written, sentence_one, kept_one};
 ghost use Rattle.output.specs.Written.{FunctionsWritten};
 
 use crate::bytes::{copy_bytes, write16, write32};
@@ -24,12 +24,21 @@ fn item_len(s: &[u8]) -> usize
     }
 }
 
+// Whether a sentence stands at the start of s.
+fn is_sentence(s: &[u8]) -> bool
+    ensures { result ≡ is_sentence s.now }
+{
+    match s.first() {
+        Some(m) => *m == 10,
+        None => false,
+    }
+}
+
 // How many of an item's w bytes are written: none of a sentence that is not kept.
 fn written_len(s: &[u8], marks: &[u32], i: usize, w: usize) -> usize
-    requires { 0 < length s.now }
     ensures { result ≡ cond (is_written (is_kept marks.now) i s.now) w 0 }
 {
-    if s[0] == 10 && !is_kept(marks, i) {
+    if is_sentence(s) && !is_kept(marks, i) {
         0
     } else {
         w
@@ -37,17 +46,15 @@ fn written_len(s: &[u8], marks: &[u32], i: usize, w: usize) -> usize
 }
 
 fn sentence_one(s: &[u8]) -> usize
-    requires { 0 < length s.now }
     ensures { result ≡ sentence_one s.now }
 {
-    usize::from(s[0] == 10)
+    usize::from(is_sentence(s))
 }
 
 fn kept_one(s: &[u8], marks: &[u32], i: usize) -> usize
-    requires { 0 < length s.now }
     ensures { result ≡ kept_one (is_kept marks.now) i s.now }
 {
-    usize::from(s[0] == 10 && is_kept(marks, i))
+    usize::from(is_sentence(s) && is_kept(marks, i))
 }
 
 // Where the functions that were written end, and how many sentences they have.

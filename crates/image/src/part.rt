@@ -1,6 +1,7 @@
 // Parts of an image: how long a record is, where its parts stand, and the way from one record to the next.
 // What stands at a place is a clause (`TermsAt`, `SentenceAt`, `Accepted`, ..), here and above, and no ghost field: it holds what was
-// read, which contracts hand on, and a ghost field holds propositions alone.
+// read, which contracts hand on, and a ghost field holds propositions alone. That a place is no further than the end is of two
+// parameters.
 // Marks stay numbers, as the definition of the bytes writes them: the arms are ranges of them, and an enum would be made of a byte only to be matched once.
 ghost use Rattle.std.specs.Prelude.{◌≡◌, ◌∷◌, suc, ◌+◌, ◌-◌, ◌*◌, ◌<◌, ◌≤◌, min, length, get_or, take, drop};
 ghost use Rattle.program.specs.Encode.{put_terms, put_conditions, put_sentences, put_functions, own_sentence_count};

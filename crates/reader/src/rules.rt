@@ -1,4 +1,5 @@
-// What is wrong with a span, a name or a code, if anything: each rule of the format once.
+// What is wrong with a span, a name or a code, if anything: each rule of the format once. A place may be the end of the body here,
+// where `At` asks for a byte.
 ghost use Rattle.std.specs.Prelude.{◌≡◌, ◌+◌, ◌-◌, ◌<◌, ◌≤◌, length, drop, true};
 ghost use Rattle.program.specs.Limits.{allowed, scalar};
 ghost use Rattle.program.specs.Automaton.{scan};

@@ -1,4 +1,4 @@
-// The report's lines, from the entries of work.
+// The report's lines, from the entries of work. That a number is below a count of the plan stays a clause: it is of two parameters.
 #![tactic(auto)]
 
 pub mod alike;

@@ -3,7 +3,7 @@ use mathlib.Core.Path.{sym}
 use mathlib.Core.Bool.{true≢false}
 use Rattle.rows.proofs.Readings.{part_length}
 use Rattle.compare.proofs.Letters.{token-long}
-use Rattle.compare.proofs.Same.{not_false, ended-both, not_ended, Keeping, keeping_first, keeping_within, keeping_few, keeping_end, keeping-next, ahead-one, ahead-two}
+use Rattle.compare.proofs.Same.{ended-both, not_ended, Keeping, keeping_first, keeping_within, keeping_few, keeping_end, keeping-next, ahead-one, ahead-two}
 use Rattle.compare.proofs.same_tokens.Goals as goal
 
 pub loop-x-init : goal.loop-x-init
@@ -97,5 +97,5 @@ pub loop-x-preserved : goal.loop-x-preserved
 loop-x-preserved c = λ t u.
     let n = not_ended _ _ _ c.is_end.ensures c.if-is_end.false in
     let e = c.if-m-y.false in
-    let l = c.same_letters.ensures (not_false _ c.if-not-same_letters.false-raw) in
+    let l = c.same_letters.ensures c.if-not-same_letters.false in
     keeping-next (c.loop-x.invariant t u) e n c.token_len-i.result c.closes_after-closes.result c.token_len-i.ensures c.closes_after-closes.ensures l.0 l.1

@@ -2,13 +2,12 @@
 use Prim.Native.Nat.{ℕ, ◌+◌, ◌<◌}
 use native.Mathlib.Omega.{arith}
 use mathlib.Core.Path.{◌≡◌, refl, sym, ap, ◌∙◌}
-use mathlib.Core.Bool.{true, false}
 use lib.ListN.{get_or}
 use Rattle.index.specs.Layout.{links}
 use Rattle.index.specs.Links.{entry_class}
 use Rattle.told.specs.History.{is_there}
 use Rattle.cleaning.specs.Indexed.{fell_of}
-use Rattle.cleaning.proofs.Meeting.{not_is, met_by, site-below, sentence-below, met_gone, met-repeat, met-asked}
+use Rattle.cleaning.proofs.Meeting.{met_by, site-below, sentence-below, met_gone, met-repeat, met-asked}
 use Rattle.overlap.proofs.Verdicts.{not-disjoint}
 use Rattle.cleaning.proofs.Room.{used_same}
 use Rattle.cleaning.proofs.walks.is_met.Goals as goal
@@ -20,7 +19,7 @@ site_there-requires c =
     (below, sentence-below a.indexed a.place a.function a.is c.args.i below, (a.indexed.fits, a.indexed.small))
 
 pub returns-then-not-site_there : goal.returns-then-not-site_there
-returns-then-not-site_there c = record { met = λ w f x y d e g l t. met_gone d f x e ((is_there (fell_of c.args.plan c.args.work.now) c.args.round)) t.terms c.args.i y g l (sym c.site_there.ensures ∙ not_is c.site_there.result true c.if-not-site_there.true-raw); keeps = used_same }
+returns-then-not-site_there c = record { met = λ w f x y d e g l t. met_gone d f x e ((is_there (fell_of c.args.plan c.args.work.now) c.args.round)) t.terms c.args.i y g l (sym c.site_there.ensures ∙ c.if-not-site_there.true); keeps = used_same }
 
 pub links-requires : goal.links-requires
 links-requires c = let d = c.requires.0.indexed in (omega (arith, d.fits, d.small), omega (arith, d.fits, d.small), omega (arith, d.fits, d.small))
@@ -56,7 +55,7 @@ shape_of-work c = c.verdict_at.ensures.keeps.length
 pub returns : goal.returns
 returns c = let h = c.site_there in record {
   met = λ w f x y d e g l t.
-      met-asked d f x e ((is_there (fell_of c.args.plan c.args.work.now) c.args.round)) t.terms c.args.i y g l (sym h.ensures ∙ not_is h.result false c.if-not-site_there.false-raw) c.ne.result
+      met-asked d f x e ((is_there (fell_of c.args.plan c.args.work.now) c.args.round)) t.terms c.args.i y g l (sym h.ensures ∙ c.if-not-site_there.false) c.ne.result
       (met_by t.terms y c.verdict_at.result (c.verdict_at.ensures.answers w f x y d e g l t) _ refl ∙ sym (c.ne.ensures ∙ not-disjoint c.verdict_at.result));
   keeps = c.verdict_at.ensures.keeps;
 }

@@ -15,10 +15,10 @@ pub bounds-s-9 : goal.bounds-s-9
 bounds-s-9 c = omega (arith, symbol-room c.requires)
 
 pub overflow_cast-result : goal.overflow_cast-result
-overflow_cast-result c = omega (arith, c.shared_slice_known-2-1.given 9)
+overflow_cast-result c = omega (arith, c.type_inv.s 9)
 
 pub overflow_add-result : goal.overflow_add-result
-overflow_add-result c = omega (arith, c.shared_slice_known-2-1.given 9)
+overflow_add-result c = omega (arith, c.type_inv.s 9)
 
 pub returns : goal.returns
 returns c = λ x. name-end x c.if-s-eq1.false _ refl

@@ -6,10 +6,10 @@ use Rattle.image.proofs.Accepted.{accepted-long, accepted_function_count}
 use Rattle.image.proofs.part.function_count.Goals as goal
 
 pub overflow_sub-img : goal.overflow_sub-img
-overflow_sub-img c = omega (arith, accepted-long c.args.img.now (bytes_of c.args.img.now (λ i. omega (arith, c.shared_slice_known-1.given i))) c.requires)
+overflow_sub-img c = omega (arith, accepted-long c.args.img.now (bytes_of c.args.img.now (λ i. omega (arith, c.type_inv.img i))) c.requires)
 
 pub read16-requires : goal.read16-requires
-read16-requires c = omega (arith, accepted-long c.args.img.now (bytes_of c.args.img.now (λ i. omega (arith, c.shared_slice_known-1.given i))) c.requires)
+read16-requires c = omega (arith, accepted-long c.args.img.now (bytes_of c.args.img.now (λ i. omega (arith, c.type_inv.img i))) c.requires)
 
 pub returns : goal.returns
-returns c = λ a. c.read16.ensures ∙ accepted_function_count c.args.img.now (bytes_of c.args.img.now (λ i. omega (arith, c.shared_slice_known-1.given i))) a
+returns c = λ a. c.read16.ensures ∙ accepted_function_count c.args.img.now (bytes_of c.args.img.now (λ i. omega (arith, c.type_inv.img i))) a

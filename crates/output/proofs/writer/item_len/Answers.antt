@@ -1,4 +1,5 @@
 -- `output::writer::item_len` meets its contract. Assumes nothing.
+use native.Mathlib.Omega.{arith}
 use Rattle.output.proofs.Items.{item_long, item_head, item_own, pass-head, pass-own, pass-close}
 use Rattle.output.proofs.writer.item_len.Goals as goal
 
@@ -18,4 +19,4 @@ pub returns-in-18 : goal.returns-in-18
 returns-in-18 c = pass-head c.args.s.now c.sentences_start.result c.in-18.is c.sentences_start.ensures
 
 pub returns-in_default : goal.returns-in_default
-returns-in_default c = pass-close c.args.s.now c.in_default.in_default-own.rest.0.1 c.in_default.in_default-own.rest.1
+returns-in_default c = pass-close c.args.s.now (λ z. omega arith) (λ z. omega arith)

@@ -1,5 +1,5 @@
 use native.Mathlib.Omega.{arith}
-use mathlib.Core.Path.{◌≡◌, refl, sym, ap, ◌∙◌, subst}
+use mathlib.Core.Path.{◌≡◌, refl, sym, ap, subst}
 use mathlib.Core.Bool.{Bool}
 use mathlib.Core.List.{List}
 use Prim.Native.Nat.{ℕ, ◌+◌, ◌-◌, ◌≤◌, ◌<◌}
@@ -165,7 +165,7 @@ loop-p-preserved c =
       omega (arith, y, l.invariant.1),
       omega (arith, z, u.1, c.sentence_one-i.ensures, l.invariant.2),
       omega (arith, u.0, c.sentence_one-i.ensures, c.kept_one-sentences.ensures, l.invariant.3),
-      c.output-1.given ∙ l.invariant.4,
+      omega arith,
       λ h. writes_turn b a.output.now a.from keep h.functions l.p l.q l.i l.sentences l.output t (l.invariant.5 h) w m c.sentence_one-i.result c.kept_one-sentences.result c.copy_bytes.new.dst d,
     )
 

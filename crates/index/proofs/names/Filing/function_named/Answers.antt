@@ -30,7 +30,7 @@ pub bounds-work-k : goal.bounds-work-k
 bounds-work-k c = omega (arith, c.bucket_of.ensures.1, c.requires.0.fits)
 
 pub overflow_cast-f : goal.overflow_cast-f
-overflow_cast-f c = omega (arith, c.shared_slice_known-4-1.given (c.args.self.at + c.args.self.functions + c.bucket_of.result))
+overflow_cast-f c = omega (arith, c.type_inv.work (c.args.self.at + c.args.self.functions + c.bucket_of.result))
 
 pub loop-f-init : goal.loop-f-init
 loop-f-init c =

@@ -6,11 +6,10 @@ use lib.ListN.{get_or}
 use Rattle.program.specs.Limits.{Mode}
 use Rattle.reader.proofs.Turning.{bracket-at, call_at, block_at, deep_result}
 use Rattle.reader.proofs.at.At.turn_result.Goals as goal
-use Rattle.reader.proofs.at.At.turn_result.Goals.{in-7-to-9, in_default, in_default-2}
 
 pub returns-then-d-ge32 : goal.returns-then-d-ge32
 returns-then-d-ge32 c =
-    let m : (7 ≤ get_or c.args.self.now.b.now c.args.self.now.p 0) × (get_or c.args.self.now.b.now c.args.self.now.p 0 ≤ 9) = elim c.if-matches.branch [ in-7-to-9 w ↦ (omega arith, omega arith) | in_default w ↦ cc | in_default-2 w ↦ cc ] in
+    let m : (7 ≤ get_or c.args.self.now.b.now c.args.self.now.p 0) × (get_or c.args.self.now.b.now c.args.self.now.p 0 ≤ 9) = (omega arith, omega arith) in
     deep_result _ _ _ c.args.self.now.inside m.0 m.1 c.if-d-ge32.true c.at.ensures
 
 pub returns-in-7 : goal.returns-in-7
@@ -21,6 +20,6 @@ returns-in-8 c = call_at _ _ _ c.args.self.now.inside c.in-8.is c.if-d-ge32.fals
 
 pub returns-in_default-m : goal.returns-in_default-m
 returns-in_default-m c =
-    let m : (7 ≤ get_or c.args.self.now.b.now c.args.self.now.p 0) × (get_or c.args.self.now.b.now c.args.self.now.p 0 ≤ 9) = elim c.if-matches.branch [ in-7-to-9 w ↦ (omega arith, omega arith) | in_default w ↦ cc | in_default-2 w ↦ cc ] in
+    let m : (7 ≤ get_or c.args.self.now.b.now c.args.self.now.p 0) × (get_or c.args.self.now.b.now c.args.self.now.p 0 ≤ 9) = (omega arith, omega arith) in
     let e : get_or c.args.self.now.b.now c.args.self.now.p 0 ≡ 9 = omega arith in
     block_at _ _ _ c.args.self.now.inside e c.if-d-ge32.false c.spanned-in_default-m.ensures

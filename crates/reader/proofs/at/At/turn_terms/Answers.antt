@@ -1,18 +1,13 @@
 -- `reader::at::At::turn_terms` meets its contract. Assumes nothing.
 use native.Mathlib.Omega.{arith}
-use mathlib.Core.Logic.{inl, inr}
 use Rattle.reader.proofs.Turning.{turn-character, turn-word, turn-number, turn-close, turn-other}
 use Rattle.reader.proofs.at.At.turn_terms.Goals as goal
-use Rattle.reader.proofs.at.At.turn_terms.Goals.{in_default-via-then-this-lt1, in_default-via-else-this-lt1+else-this-lt7, in-2-1, in_default+else-this-lt1+then-this-lt7}
 
 pub returns-in-1 : goal.returns-in-1
 returns-in-1 c = turn-character _ _ c.args.self.now.inside c.requires.0 c.in-1.is c.spanned.ensures
 
 pub returns-in-2 : goal.returns-in-2
-returns-in-2 c = elim c.in-2-1.branch [
-  | in-2-1 w ↦ turn-word _ _ c.args.self.now.inside c.requires.0 (omega arith) (omega arith) (λ z. omega arith) c.spanned-in-2.ensures
-  | in_default+else-this-lt1+then-this-lt7 w ↦ turn-word _ _ c.args.self.now.inside c.requires.0 (omega arith) (omega arith) (λ z. omega arith) c.spanned-in-2.ensures
-]
+returns-in-2 c = turn-word _ _ c.args.self.now.inside c.requires.0 (grind arith) (grind arith) (λ z. grind arith) c.spanned-in-2.ensures
 
 pub returns-in-3 : goal.returns-in-3
 returns-in-3 c = turn-number _ _ c.args.self.now.inside c.requires.0 c.in-3.is c.spanned-in-3.ensures
@@ -21,7 +16,4 @@ pub returns-in-15 : goal.returns-in-15
 returns-in-15 c = turn-close _ _ c.args.self.now.inside c.requires.0 c.in-15.is c.go.ensures
 
 pub returns-in_default : goal.returns-in_default
-returns-in_default c = elim c.in_default.branch [
-  | in_default-via-then-this-lt1 w ↦ turn-other _ _ c.args.self.now.inside c.requires.0 (inl (omega arith)) (λ z. omega arith) c.at.ensures
-  | in_default-via-else-this-lt1+else-this-lt7 w ↦ turn-other _ _ c.args.self.now.inside c.requires.0 (inr (grind arith)) (λ z. omega arith) c.at.ensures
-]
+returns-in_default c = turn-other _ _ c.args.self.now.inside c.requires.0 (grind arith) (λ z. omega arith) c.at.ensures

@@ -40,5 +40,5 @@ put_bytes-requires c =
 pub returns : goal.returns
 returns c = λ t.
     let m = get_or c.args.self.bytes.now 0 0 in
-    emitted-same (token-written (λ i. omega (arith, c.shared_slice_known-1.given i)) t c.if-m-eq15.false c.size-end.result (c.size-end.ensures t))
+    emitted-same (token-written (λ i. grind arith) t c.if-m-eq15.false c.size-end.result (c.size-end.ensures t))
     (emitted-append (m ∷ 0 ∷ 0 ∷ 0 ∷ 0 ∷ 0 ∷ 0 ∷ 0 ∷ 0 ∷ []) _ (emitted-append (m ∷ []) (0 ∷ 0 ∷ 0 ∷ 0 ∷ 0 ∷ 0 ∷ 0 ∷ 0 ∷ []) c.put_byte-span.ensures c.put_bytes-fields.ensures) c.put_bytes.ensures)

@@ -114,22 +114,17 @@ impl<'b> At<'b> {
         ensures { Stops self.now.b.now s.now top self.now.p result }
     {
         let b = self.b;
-        let mut n = top;
         let mut p = self.p;
-        while 0 < n {
-            if !is_terms(s[n - 1]) {
-                return At { b, p }.over_names(s, n);
+        for k in (0..top).rev() {
+            if !is_terms(s[k]) {
+                return At { b, p }.over_names(s, k + 1);
             }
             p = At { b, p }.flat_terms();
-            if b[p] != 15 {
-                return Spot { n, at: p };
+            if b[p] != 15 || b.len() - p < 2 {
+                return Spot { n: k + 1, at: p };
             }
-            if b.len() - p < 2 {
-                return Spot { n, at: p };
-            }
-            n -= 1;
             p += 1;
         }
-        Spot { n, at: p }
+        Spot { n: 0, at: p }
     }
 }

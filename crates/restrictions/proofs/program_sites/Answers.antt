@@ -1,6 +1,9 @@
+use Prim.Native.Nat.{◌+◌, ◌<◌, ◌≤◌}
 use native.Mathlib.Omega.{arith}
-use Rattle.restrictions.proofs.Walking.{Walking, walking_first, walking_length, walking_end, walking_close, function-part, function-fits, walking-function, sentence-there, sentence-small, sentence-room, sentence-later, walking-sentence}
+use lib.ListN.{length}
+use Rattle.restrictions.proofs.Walking.{walking_first, walking_length, walking_end, walking_close, function-part, function-fits, walking-function, sentence-there, sentence-small, sentence-room, sentence-later, walking-sentence}
 use Rattle.restrictions.proofs.program_sites.Goals as goal
+use Rattle.restrictions.proofs.program_sites.Goals.{After-sentences_start-p}
 
 pub loop-p-init : goal.loop-p-init
 loop-p-init c = (c.requires.1, λ h. walking_first _ _ h (omega (arith, c.requires.2.room)))
@@ -18,44 +21,49 @@ pub slice_bounds-sentences_start-end : goal.slice_bounds-sentences_start-end
 slice_bounds-sentences_start-end c = omega (arith, c.loop-p-test.true)
 
 pub sentences_start-p-requires : goal.sentences_start-p-requires
-sentences_start-p-requires c =
-    let walking : Walking c.args.b.now c.args.from c.args.sites.now c.args.n c.loop-p.sites c.loop-p.p c.loop-p.sentence c.loop-p.k c.requires.2.reading = c.loop-p.invariant.1 c.requires.2.reading in
-    function-part walking c.loop-p-test.true c.if-m-eq18.true
+sentences_start-p-requires c = function-part (c.loop-p.invariant.1 c.requires.2.reading) c.loop-p-test.true c.if-m-eq18.true
+
+function_inside : (c : After-sentences_start-p) → (0 < c.sentences_start-p.result) × (c.loop-p.p + c.sentences_start-p.result ≤ length c.args.b.now)
+function_inside c =
+    let w = c.loop-p.invariant.1 c.requires.2.reading in
+    let l = c.loop-p-test.true in
+    let m = c.if-m-eq18.true in
+    function-fits w l m c.sentences_start-p.result (c.sentences_start-p.ensures (function-part w l m))
 
 pub overflow_add-p : goal.overflow_add-p
-overflow_add-p c =
-    let walking : Walking c.args.b.now c.args.from c.args.sites.now c.args.n c.loop-p.sites c.loop-p.p c.loop-p.sentence c.loop-p.k c.requires.2.reading = c.loop-p.invariant.1 c.requires.2.reading in
-    omega (arith, function-fits walking c.loop-p-test.true c.if-m-eq18.true c.sentences_start-p.result (c.sentences_start-p.ensures (function-part walking c.loop-p-test.true c.if-m-eq18.true)), c.requires.0)
+overflow_add-p c = omega (arith, function_inside c, c.requires.0)
 
 pub loop-p-smaller-then-m-eq18 : goal.loop-p-smaller-then-m-eq18
-loop-p-smaller-then-m-eq18 c =
-    let walking : Walking c.args.b.now c.args.from c.args.sites.now c.args.n c.loop-p.sites c.loop-p.p c.loop-p.sentence c.loop-p.k c.requires.2.reading = c.loop-p.invariant.1 c.requires.2.reading in
-    omega (arith, function-fits walking c.loop-p-test.true c.if-m-eq18.true c.sentences_start-p.result (c.sentences_start-p.ensures (function-part walking c.loop-p-test.true c.if-m-eq18.true)), c.loop-p-test.true)
+loop-p-smaller-then-m-eq18 c = omega (arith, function_inside c, c.loop-p-test.true)
 
 pub loop-p-preserved-then-m-eq18 : goal.loop-p-preserved-then-m-eq18
 loop-p-preserved-then-m-eq18 c =
-    let walking : Walking c.args.b.now c.args.from c.args.sites.now c.args.n c.loop-p.sites c.loop-p.p c.loop-p.sentence c.loop-p.k c.requires.2.reading = c.loop-p.invariant.1 c.requires.2.reading in
-    ((function-fits walking c.loop-p-test.true c.if-m-eq18.true c.sentences_start-p.result (c.sentences_start-p.ensures (function-part walking c.loop-p-test.true c.if-m-eq18.true))).1, λ h. let w = c.loop-p.invariant.1 h in walking-function w c.loop-p-test.true c.if-m-eq18.true c.sentences_start-p.result (c.sentences_start-p.ensures (function-part w c.loop-p-test.true c.if-m-eq18.true)))
+    let l = c.loop-p-test.true in
+    let m = c.if-m-eq18.true in
+    ((function_inside c).1, λ h. let w = c.loop-p.invariant.1 h in walking-function w l m c.sentences_start-p.result (c.sentences_start-p.ensures (function-part w l m)))
 
 pub sentence_sites-w-requires : goal.sentence_sites-w-requires
 sentence_sites-w-requires c =
-    let walking : Walking c.args.b.now c.args.from c.args.sites.now c.args.n c.loop-p.sites c.loop-p.p c.loop-p.sentence c.loop-p.k c.requires.2.reading = c.loop-p.invariant.1 c.requires.2.reading in
-    (c.requires.0, sentence-small walking c.loop-p-test.true c.if-m-eq10.true c.requires.0, record { reading = (sentence-there walking c.loop-p-test.true c.if-m-eq10.true).here; room = sentence-room walking c.loop-p-test.true c.if-m-eq10.true c.requires.2.room })
+    let w = c.loop-p.invariant.1 c.requires.2.reading in
+    let l = c.loop-p-test.true in
+    let m = c.if-m-eq10.true in
+    (c.requires.0, sentence-small w l m c.requires.0, record { reading = (sentence-there w l m).here; room = sentence-room w l m c.requires.2.room })
 
 pub overflow_add-sentence : goal.overflow_add-sentence
-overflow_add-sentence c =
-    let walking : Walking c.args.b.now c.args.from c.args.sites.now c.args.n c.loop-p.sites c.loop-p.p c.loop-p.sentence c.loop-p.k c.requires.2.reading = c.loop-p.invariant.1 c.requires.2.reading in
-    omega (arith, sentence-small walking c.loop-p-test.true c.if-m-eq10.true c.requires.0)
+overflow_add-sentence c = omega (arith, sentence-small (c.loop-p.invariant.1 c.requires.2.reading) c.loop-p-test.true c.if-m-eq10.true c.requires.0)
 
 pub loop-p-smaller-then-m-eq10 : goal.loop-p-smaller-then-m-eq10
 loop-p-smaller-then-m-eq10 c =
-    let walking : Walking c.args.b.now c.args.from c.args.sites.now c.args.n c.loop-p.sites c.loop-p.p c.loop-p.sentence c.loop-p.k c.requires.2.reading = c.loop-p.invariant.1 c.requires.2.reading in
-    omega (arith, sentence-later walking c.loop-p-test.true c.if-m-eq10.true (c.sentence_sites-w.ensures (sentence-there walking c.loop-p-test.true c.if-m-eq10.true).here), (c.sentence_sites-w.ensures (sentence-there walking c.loop-p-test.true c.if-m-eq10.true).here).fits, c.loop-p-test.true)
+    let w = c.loop-p.invariant.1 c.requires.2.reading in
+    let z = c.sentence_sites-w.ensures (sentence-there w c.loop-p-test.true c.if-m-eq10.true).here in
+    omega (arith, sentence-later w c.loop-p-test.true c.if-m-eq10.true z, z.fits)
 
 pub loop-p-preserved-then-m-eq10 : goal.loop-p-preserved-then-m-eq10
 loop-p-preserved-then-m-eq10 c =
-    let walking : Walking c.args.b.now c.args.from c.args.sites.now c.args.n c.loop-p.sites c.loop-p.p c.loop-p.sentence c.loop-p.k c.requires.2.reading = c.loop-p.invariant.1 c.requires.2.reading in
-    ((c.sentence_sites-w.ensures (sentence-there walking c.loop-p-test.true c.if-m-eq10.true).here).fits, λ h. let w = c.loop-p.invariant.1 h in walking-sentence w c.loop-p-test.true c.if-m-eq10.true (c.sentence_sites-w.ensures (sentence-there w c.loop-p-test.true c.if-m-eq10.true).here))
+    let l = c.loop-p-test.true in
+    let m = c.if-m-eq10.true in
+    let z = c.sentence_sites-w.ensures in
+    ((z (sentence-there (c.loop-p.invariant.1 c.requires.2.reading) l m).here).fits, λ h. let w = c.loop-p.invariant.1 h in walking-sentence w l m (z (sentence-there w l m).here))
 
 pub overflow_add-p-else-m-eq10 : goal.overflow_add-p-else-m-eq10
 overflow_add-p-else-m-eq10 c = omega (arith, c.loop-p-test.true, c.requires.0)
@@ -67,9 +75,7 @@ pub loop-p-preserved : goal.loop-p-preserved
 loop-p-preserved c = (omega (arith, c.loop-p-test.true), λ h. let w = c.loop-p.invariant.1 h in walking_close w c.loop-p-test.true c.if-m-eq18.false c.if-m-eq10.false)
 
 pub shape_of-sites : goal.shape_of-sites
-shape_of-sites c =
-    let walking : Walking c.args.b.now c.args.from c.args.sites.now c.args.n c.loop-p.sites c.loop-p.p c.loop-p.sentence c.loop-p.k c.requires.2.reading = c.loop-p.invariant.1 c.requires.2.reading in
-    walking_length (walking)
+shape_of-sites c = walking_length (c.loop-p.invariant.1 c.requires.2.reading)
 
 pub returns : goal.returns
 returns c = λ h. walking_end (c.loop-p.invariant.1 h) c.loop-p-test.false

@@ -1,19 +1,30 @@
 -- `cleaning::prepare::class_function` meets its contract. Assumes nothing.
-use Prim.Native.Nat.{ℕ, ◌+◌, ◌-◌}
+use Prim.Native.Nat.{ℕ, ◌+◌, ◌-◌, ◌<◌}
 use native.Mathlib.Omega.{arith}
-use mathlib.Core.Path.{sym, subst}
+use mathlib.Core.Path.{◌≡◌, sym, subst}
+use mathlib.Core.Bool.{true}
 use mathlib.Core.List.{List}
-use lib.ListN.{length}
+use lib.ListN.{length, get_or}
 use Rattle.program.specs.Syntax.{Program}
 use Rattle.told.specs.Numbered.{sites_of}
+use Rattle.index.specs.declared.Plan.{Plan}
 use Rattle.index.specs.Bucket.{Filed}
-use Rattle.index.specs.Layout.{calls}
+use Rattle.index.specs.Layout.{calls, links}
+use Rattle.index.specs.Links.{list_head}
 use Rattle.index.specs.Lists.{ListAt}
 use Rattle.index.specs.Tabled.{SomeFiled}
 use Rattle.index.proofs.First.{Element, element_at}
 use Rattle.cleaning.specs.Prepared.{Chains, ClassesWritten}
 use Rattle.cleaning.proofs.Classes.{chains-list, classes_next, classes_later, tabled_still, filed-there, filed_still}
 use Rattle.cleaning.proofs.prepare.class_function.Goals as goal
+
+function_at : {b old : List ℕ} {p : Plan} {w : Program} {f : ℕ} → Chains b w old p → f < p.functions → Element w.functions f
+function_at {w = w} {f} h l = element_at w.functions f (omega (arith, h.functions, l))
+
+-- The function's list of plain sites, with the numbers that the code has for where its parts begin.
+list_at : {b old m : List ℕ} {p : Plan} {w : Program} {f calls_at links_at head : ℕ} → Chains b w old p → ClassesWritten w old m p f → (x : Element w.functions f) → calls_at ≡ calls p → links_at ≡ links p → head ≡ list_head true (get_or m (p.functions + f) 0) → f < p.functions
+    → ListAt b m calls_at links_at p.sites head x.element.name (sites_of w)
+list_at h k x d e g l = rw (d, e) (chains-list h k x.element x.is _ g l)
 
 pub calls-calls-requires : goal.calls-calls-requires
 calls-calls-requires c = let w = c.requires.chains in (omega (arith, w.fits, w.small), omega (arith, w.fits, w.small))
@@ -47,18 +58,12 @@ head_site-head-requires c = let w = c.requires in omega (arith, w.chains.fits, w
 
 pub class_list-requires : goal.class_list-requires
 class_list-requires c =
-    let element : (w : Program) (old : List ℕ) → Chains c.args.b.now w old c.args.plan → Element w.functions c.args.f = λ w old h. element_at w.functions c.args.f (omega (arith, h.functions, c.requires.below)) in
-    let list_at : (w : Program) (old : List ℕ) (h : Chains c.args.b.now w old c.args.plan) → ClassesWritten w old c.args.work.now c.args.plan c.args.f → ListAt c.args.b.now c.args.work.now c.calls-calls.result c.links-links.result c.args.plan.sites c.head_site-head.result (element w old h).element.name (sites_of w) = λ w old h k. let a = c.args in
-    let x = element w old h in
-    subst (λ (i : ℕ). ListAt a.b.now a.work.now i c.links-links.result a.plan.sites c.head_site-head.result x.element.name (sites_of w)) (sym c.calls-calls.ensures)
-    (subst (λ (i : ℕ). ListAt a.b.now a.work.now (calls a.plan) i a.plan.sites c.head_site-head.result x.element.name (sites_of w)) (sym c.links-links.ensures)
-    (chains-list h k x.element x.is c.head_site-head.result c.head_site-head.ensures.0 c.requires.below)) in
     let w = c.requires in
-    let x = element w.program w.old w.chains in (
+    let x = function_at w.chains w.below in (
       record {
         name = x.element.name;
         sites = sites_of w.program;
-        list = list_at w.program w.old w.chains w.written;
+        list = list_at w.chains w.written x c.calls-calls.ensures c.links-links.ensures c.head_site-head.ensures.0 w.below;
       },
       omega (arith, w.written.length, w.chains.small),
       omega (arith, w.chains.fits, w.chains.small, w.below),
@@ -67,31 +72,21 @@ class_list-requires c =
 
 pub shape_of-work-then-is_first : goal.shape_of-work-then-is_first
 shape_of-work-then-is_first c =
-    let element : (w : Program) (old : List ℕ) → Chains c.args.b.now w old c.args.plan → Element w.functions c.args.f = λ w old h. element_at w.functions c.args.f (omega (arith, h.functions, c.requires.below)) in
-    let list_at : (w : Program) (old : List ℕ) (h : Chains c.args.b.now w old c.args.plan) → ClassesWritten w old c.args.work.now c.args.plan c.args.f → ListAt c.args.b.now c.args.work.now c.calls-calls.result c.links-links.result c.args.plan.sites c.head_site-head.result (element w old h).element.name (sites_of w) = λ w old h k. let a = c.args in
-    let x = element w old h in
-    subst (λ (i : ℕ). ListAt a.b.now a.work.now i c.links-links.result a.plan.sites c.head_site-head.result x.element.name (sites_of w)) (sym c.calls-calls.ensures)
-    (subst (λ (i : ℕ). ListAt a.b.now a.work.now (calls a.plan) i a.plan.sites c.head_site-head.result x.element.name (sites_of w)) (sym c.links-links.ensures)
-    (chains-list h k x.element x.is c.head_site-head.result c.head_site-head.ensures.0 c.requires.below)) in
-    let w = c.requires in (c.class_list.ensures.others (element w.program w.old w.chains).element.name (sites_of w.program) (list_at w.program w.old w.chains w.written)).length
+    let w = c.requires in
+    let x = function_at w.chains w.below in
+    let l = list_at w.chains w.written x c.calls-calls.ensures c.links-links.ensures c.head_site-head.ensures.0 w.below in
+    (c.class_list.ensures.others x.element.name (sites_of w.program) l).length
 
 pub returns-then-is_first : goal.returns-then-is_first
-returns-then-is_first c =
-    let element : (w : Program) (old : List ℕ) → Chains c.args.b.now w old c.args.plan → Element w.functions c.args.f = λ w old h. element_at w.functions c.args.f (omega (arith, h.functions, c.requires.below)) in
-    let list_at : (w : Program) (old : List ℕ) (h : Chains c.args.b.now w old c.args.plan) → ClassesWritten w old c.args.work.now c.args.plan c.args.f → ListAt c.args.b.now c.args.work.now c.calls-calls.result c.links-links.result c.args.plan.sites c.head_site-head.result (element w old h).element.name (sites_of w) = λ w old h k. let a = c.args in
-    let x = element w old h in
-    subst (λ (i : ℕ). ListAt a.b.now a.work.now i c.links-links.result a.plan.sites c.head_site-head.result x.element.name (sites_of w)) (sym c.calls-calls.ensures)
-    (subst (λ (i : ℕ). ListAt a.b.now a.work.now (calls a.plan) i a.plan.sites c.head_site-head.result x.element.name (sites_of w)) (sym c.links-links.ensures)
-    (chains-list h k x.element x.is c.head_site-head.result c.head_site-head.ensures.0 c.requires.below)) in
-    λ w old h k.
-    let x = element w old h in
-    let l = list_at w old h k in
+returns-then-is_first c = λ w old h k.
+    let x = function_at h c.requires.below in
+    let l = list_at h k x c.calls-calls.ensures c.links-links.ensures c.head_site-head.ensures.0 c.requires.below in
     classes_next h k x.element x.is c.links-links.result c.links-links.ensures (c.class_list.ensures.classed x.element.name (sites_of w) l) (c.class_list.ensures.others x.element.name (sites_of w) l)
 
 pub returns-else-is_first : goal.returns-else-is_first
 returns-else-is_first c = λ w old h k.
     let a = c.args in
-    let x = element_at w.functions a.f (omega (arith, h.functions, c.requires.below)) in
+    let x = function_at h c.requires.below in
     classes_later h k x.element x.is (c.is_first.ensures w.functions x.element (tabled_still h k)
     (subst
     (λ (i : ℕ). Filed w.functions a.work.now (i + a.plan.sites) (i + a.plan.sites + a.plan.functions) (length a.work.now - (i + a.plan.sites) - a.plan.functions) 0)

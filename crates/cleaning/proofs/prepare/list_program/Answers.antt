@@ -1,17 +1,21 @@
 -- `cleaning::prepare::list_program` meets its contract. Assumes nothing.
-use Prim.Native.Nat.{◌+◌, ◌-◌, ◌*◌, ◌/◌, ◌<◌, ◌≤◌}
+use Prim.Native.Nat.{ℕ, ◌+◌, ◌-◌, ◌*◌, ◌/◌, ◌<◌, ◌≤◌}
 use native.Mathlib.Omega.{arith}
 use mathlib.Core.Path.{◌∙◌}
+use mathlib.Core.List.{List}
 use lib.ListN.{length}
 use borrow.Author.Rules.{rules}
 use borrow.Rule.Slice.PartMut.{post_of}
+use Rattle.cleaning.specs.Prepared.{SomeProgram}
 use Rattle.cleaning.proofs.ListedProgram.{body-room, functions-room, calls-within, sites-room, program-listed}
 use Rattle.cleaning.proofs.prepare.list_program.Goals as goal
 
+-- There is room for what is listed of functions and sentences, and to file the functions.
+columns_fit : {b m : List ℕ} {from functions sentences : ℕ} → SomeProgram b from m functions sentences → (3 * functions + 2 * sentences + (sentences + 31) / 32 < length m) × (length m ≤ 8192)
+columns_fit p = (omega (arith, body-room p.enough p.body p.functions_are p.sentences_are), p.enough.small)
+
 pub overflow_mul-functions : goal.overflow_mul-functions
-overflow_mul-functions c =
-    let both : (3 * c.args.functions + 2 * c.args.sentences + (c.args.sentences + 31) / 32 < length c.args.work.now) × (length c.args.work.now ≤ 8192) = let p = c.requires in (omega (arith, body-room p.enough p.body p.functions_are p.sentences_are), p.enough.small) in
-    omega (arith, both)
+overflow_mul-functions c = omega (arith, columns_fit c.requires)
 
 pub list_functions-requires : goal.list_functions-requires
 list_functions-requires c =
@@ -19,34 +23,22 @@ list_functions-requires c =
     (omega (arith, p.body.short), p.body.within, functions-room p.enough p.body p.functions_are p.sentences_are _ c.fill.ensures.others.length, p.body.reading)
 
 pub overflow_mul-calls : goal.overflow_mul-calls
-overflow_mul-calls c =
-    let both : (3 * c.args.functions + 2 * c.args.sentences + (c.args.sentences + 31) / 32 < length c.args.work.now) × (length c.args.work.now ≤ 8192) = let p = c.requires in (omega (arith, body-room p.enough p.body p.functions_are p.sentences_are), p.enough.small) in
-    omega (arith, both)
+overflow_mul-calls c = omega (arith, columns_fit c.requires)
 
 pub overflow_mul-calls-2 : goal.overflow_mul-calls-2
-overflow_mul-calls-2 c =
-    let both : (3 * c.args.functions + 2 * c.args.sentences + (c.args.sentences + 31) / 32 < length c.args.work.now) × (length c.args.work.now ≤ 8192) = let p = c.requires in (omega (arith, body-room p.enough p.body p.functions_are p.sentences_are), p.enough.small) in
-    omega (arith, both)
+overflow_mul-calls-2 c = omega (arith, columns_fit c.requires)
 
 pub overflow_add-calls : goal.overflow_add-calls
-overflow_add-calls c =
-    let both : (3 * c.args.functions + 2 * c.args.sentences + (c.args.sentences + 31) / 32 < length c.args.work.now) × (length c.args.work.now ≤ 8192) = let p = c.requires in (omega (arith, body-room p.enough p.body p.functions_are p.sentences_are), p.enough.small) in
-    omega (arith, both)
+overflow_add-calls c = omega (arith, columns_fit c.requires)
 
 pub overflow_add-calls-2 : goal.overflow_add-calls-2
-overflow_add-calls-2 c =
-    let both : (3 * c.args.functions + 2 * c.args.sentences + (c.args.sentences + 31) / 32 < length c.args.work.now) × (length c.args.work.now ≤ 8192) = let p = c.requires in (omega (arith, body-room p.enough p.body p.functions_are p.sentences_are), p.enough.small) in
-    omega (arith, both)
+overflow_add-calls-2 c = omega (arith, columns_fit c.requires)
 
 pub overflow_add-calls-3 : goal.overflow_add-calls-3
-overflow_add-calls-3 c =
-    let both : (3 * c.args.functions + 2 * c.args.sentences + (c.args.sentences + 31) / 32 < length c.args.work.now) × (length c.args.work.now ≤ 8192) = let p = c.requires in (omega (arith, body-room p.enough p.body p.functions_are p.sentences_are), p.enough.small) in
-    omega (arith, both)
+overflow_add-calls-3 c = omega (arith, columns_fit c.requires)
 
 pub offset_bounds-work-calls : goal.offset_bounds-work-calls
-offset_bounds-work-calls c =
-    let both : (3 * c.args.functions + 2 * c.args.sentences + (c.args.sentences + 31) / 32 < length c.args.work.now) × (length c.args.work.now ≤ 8192) = let p = c.requires in (omega (arith, body-room p.enough p.body p.functions_are p.sentences_are), p.enough.small) in
-    omega (arith, both)
+offset_bounds-work-calls c = omega (arith, columns_fit c.requires)
 
 pub slice_bounds-program_sites-count : goal.slice_bounds-program_sites-count
 slice_bounds-program_sites-count c =

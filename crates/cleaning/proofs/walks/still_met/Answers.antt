@@ -2,13 +2,11 @@
 use Prim.Native.Nat.{ℕ, suc, ◌+◌, ◌<◌, ◌≤◌}
 use native.Mathlib.Omega.{arith}
 use mathlib.Core.Path.{◌≡◌, sym, ap, subst, ◌∙◌}
-use mathlib.Core.Bool.{true, false}
+use mathlib.Core.Bool.{Bool, true, false}
 use mathlib.Core.List.{List}
 use borrow.Author.Tests.{lt-ltb, le-ltb}
-use lib.ListN.{length, get_or, set, get_elem?, drop}
+use lib.ListN.{length, get_or, set, get_elem?}
 use lib.Seq.{get_or-set_same}
-use Rattle.program.specs.Limits.{Mode}
-use Rattle.image.specs.Parts.{TermsAt}
 use Rattle.program.specs.Sentences.{Sentence, own_sentences}
 use Rattle.program.specs.Syntax.{Function, Program}
 use Rattle.index.specs.First.{First}
@@ -21,38 +19,44 @@ use Rattle.told.specs.Numbered.{sites_of}
 use Rattle.cleaning.specs.Indexed.{Indexed, fell_of}
 use Rattle.index.specs.declared.Plan.{Plan}
 use Rattle.cleaning.specs.Room.{Used}
-use Rattle.cleaning.specs.Walks.{OnList, NoneMet, Owns, WitnessOf, witness_from, OneColumn}
+use Rattle.cleaning.specs.Walks.{OnList, NoneMet, Owns, WitnessOf, SomeOwned, witness_from, OneColumn}
 use Rattle.cleaning.proofs.Meeting.{number_is, site_element, sentence-below}
 use Rattle.cleaning.proofs.Room.{used_same, one_column, no_column}
 use Rattle.cleaning.proofs.Witnesses.{pattern-there, begins-at, none_left, witness-there, still_by}
 use Rattle.cleaning.proofs.walks.still_met.Goals as goal
+use Rattle.cleaning.proofs.walks.still_met.Goals.{In-Some}
 
--- An entry that is written at k, which is q.
-put-there : {k q : ℕ} → k ≡ q → (m : List ℕ) (v : ℕ) → k < length m → get_or (set m k v) q 0 ≡ v
-put-there {k} e m v h = ap (λ (j : ℕ). get_or (set m k v) j 0) (sym e) ∙ get_or-set_same m k v 0 h
+-- The sentence has a witness in work.
+witness_inside : {b m : List ℕ} {p : Plan} {keep : ℕ → Bool} {f s : ℕ} → SomeOwned b m p keep f s → (s < p.sentences) × (witnesses p + s < length m) × (length m ≤ 8192)
+witness_inside {s = s} q =
+    let d = q.indexed in
+    let e = element_below (own_sentences q.program.functions) s q.sentence q.owns.sentence in
+    (omega (arith, e, d.sentences), omega (arith, e, d.sentences, d.fits), d.small)
 
-put-column : {k q : ℕ} → k ≡ q → {p : Plan} {m n : List ℕ} → Used p m n → (v : ℕ) → OneColumn p m (set n k v) q
-put-column {k} e {p} {m} {n} u v = subst (OneColumn p m (set n k v)) e (one_column u k v)
+-- Where the search begins, no site of the list has been met.
+begins : {b m : List ℕ} {p : Plan} {keep : ℕ → Bool} {w : Program} {f s i : ℕ} {x : Function} {y : Sentence} → Indexed b w m p → Owns w f x s y → WitnessOf keep x.name y.pattern (sites_of w) (get_or m (witnesses p + s) 0)
+    → i ≡ witness_from (get_or m (witnesses p + s) 0) (list_head true (get_or m (heads p + f) 0)) → OnList x.name (sites_of w) i × NoneMet keep x.name y.pattern (sites_of w) i
+begins {m = m} {p} {keep} {w} {f} {s} {x = x} {y} d o a e =
+    rw e (begins-at keep x.name y.pattern (sites_of w) (get_or m (witnesses p + s) 0) (list_head true (get_or m (heads p + f) 0)) (d.headed.head true f x o.function) a)
+
+-- An entry is written in a column that begins at n, which is q.
+put-there : {n q : ℕ} → n ≡ q → (s : ℕ) (m : List ℕ) (v : ℕ) → n + s < length m → get_or (set m (n + s) v) (q + s) 0 ≡ v
+put-there {n} e s m v h = ap (λ (j : ℕ). get_or (set m (n + s) v) (j + s) 0) (sym e) ∙ get_or-set_same m (n + s) v 0 h
+
+put-column : {n q : ℕ} → n ≡ q → (s : ℕ) {p : Plan} {m o : List ℕ} → Used p m o → (v : ℕ) → OneColumn p m (set o (n + s) v) (q + s)
+put-column {n} e s {p} {m} {o} u v = subst (λ (j : ℕ). OneColumn p m (set o (n + s) v) (j + s)) e (one_column u (n + s) v)
 
 pub witnesses-requires : goal.witnesses-requires
-witnesses-requires c =
-    let below : c.args.s < c.args.plan.sentences = let p = c.requires.0 in omega (arith, element_below (own_sentences p.program.functions) c.args.s p.sentence p.owns.sentence, p.indexed.sentences) in
-    let both : (witnesses c.args.plan + c.args.s < length c.args.work.now) × (length c.args.work.now ≤ 8192) = let d = c.requires.0.indexed in (omega (arith, d.fits, below), d.small) in
-    (omega (arith, both), omega (arith, both))
+witnesses-requires c = omega (arith, witness_inside c.requires.0)
 
 pub overflow_add-k : goal.overflow_add-k
-overflow_add-k c =
-    let below : c.args.s < c.args.plan.sentences = let p = c.requires.0 in omega (arith, element_below (own_sentences p.program.functions) c.args.s p.sentence p.owns.sentence, p.indexed.sentences) in
-    let both : (witnesses c.args.plan + c.args.s < length c.args.work.now) × (length c.args.work.now ≤ 8192) = let d = c.requires.0.indexed in (omega (arith, d.fits, below), d.small) in
-    let same : let a = c.args in c.witnesses.result + a.s ≡ witnesses a.plan + a.s = ap (λ (k : ℕ). k + c.args.s) c.witnesses.ensures in
-    let both_2 : let a = c.args in (c.witnesses.result + a.s < length a.work.now) × (length a.work.now ≤ 8192) = let w = both in (omega (arith, w.0, same), w.1) in
-    omega (arith, both_2)
+overflow_add-k c = omega (arith, witness_inside c.requires.0)
 
 pub witness_of-i-requires : goal.witness_of-i-requires
 witness_of-i-requires c =
-    let below : c.args.f < c.args.plan.functions = let p = c.requires.0 in omega (arith, element_below p.program.functions c.args.f p.function p.owns.function, p.indexed.functions) in
-    let below_2 : c.args.s < c.args.plan.sentences = let p = c.requires.0 in omega (arith, element_below (own_sentences p.program.functions) c.args.s p.sentence p.owns.sentence, p.indexed.sentences) in
-    (below, below_2, (c.requires.0.indexed.fits, c.requires.0.indexed.small))
+    let p = c.requires.0 in
+    let below : c.args.f < c.args.plan.functions = omega (arith, element_below p.program.functions c.args.f p.function p.owns.function, p.indexed.functions) in
+    (below, (witness_inside p).0, (p.indexed.fits, p.indexed.small))
 
 pub overflow_cast-work : goal.overflow_cast-work
 overflow_cast-work c = let d = c.requires.0.indexed in omega (arith, d.fits, d.small)
@@ -61,57 +65,28 @@ pub overflow_add-work : goal.overflow_add-work
 overflow_add-work c = let d = c.requires.0.indexed in omega (arith, d.fits, d.small)
 
 pub offset_bounds-work-k : goal.offset_bounds-work-k
-offset_bounds-work-k c =
-    let below : c.args.s < c.args.plan.sentences = let p = c.requires.0 in omega (arith, element_below (own_sentences p.program.functions) c.args.s p.sentence p.owns.sentence, p.indexed.sentences) in
-    let both : (witnesses c.args.plan + c.args.s < length c.args.work.now) × (length c.args.work.now ≤ 8192) = let d = c.requires.0.indexed in (omega (arith, d.fits, below), d.small) in
-    let same : let a = c.args in c.witnesses.result + a.s ≡ witnesses a.plan + a.s = ap (λ (k : ℕ). k + c.args.s) c.witnesses.ensures in
-    let both_2 : let a = c.args in (c.witnesses.result + a.s < length a.work.now) × (length a.work.now ≤ 8192) = let w = both in (omega (arith, w.0, same), w.1) in
-    omega (arith, both_2)
+offset_bounds-work-k c = omega (arith, witness_inside c.requires.0)
 
 pub bounds-work-k : goal.bounds-work-k
-bounds-work-k c =
-    let below : c.args.s < c.args.plan.sentences = let p = c.requires.0 in omega (arith, element_below (own_sentences p.program.functions) c.args.s p.sentence p.owns.sentence, p.indexed.sentences) in
-    let both : (witnesses c.args.plan + c.args.s < length c.args.work.now) × (length c.args.work.now ≤ 8192) = let d = c.requires.0.indexed in (omega (arith, d.fits, below), d.small) in
-    let same : let a = c.args in c.witnesses.result + a.s ≡ witnesses a.plan + a.s = ap (λ (k : ℕ). k + c.args.s) c.witnesses.ensures in
-    let both_2 : let a = c.args in (c.witnesses.result + a.s < length a.work.now) × (length a.work.now ≤ 8192) = let w = both in (omega (arith, w.0, same), w.1) in
-    (both_2).0
+bounds-work-k c = omega (arith, witness_inside c.requires.0)
 
 pub returns-then-plan-i : goal.returns-then-plan-i
 returns-then-plan-i c =
-    let IndexedHere : Program → Type 0 = λ w. Indexed c.args.b.now w c.args.work.now c.args.plan in
-    let OwnsHere : Program → Function → Sentence → Type 0 = λ w x y. Owns w c.args.f x c.args.s y in
-    let WitnessOfHere : Program → Function → Sentence → Type 0 = λ w x y. WitnessOf ((is_there (fell_of c.args.plan c.args.work.now) c.args.round)) x.name y.pattern (sites_of w) ((get_or c.args.work.now (witnesses c.args.plan + c.args.s) 0)) in
-    let both : (w : Program) (x : Function) (y : Sentence) → IndexedHere w → OwnsHere w x y → WitnessOfHere w x y → OnList x.name (sites_of w) c.witness_of-i.result × NoneMet ((is_there (fell_of c.args.plan c.args.work.now) c.args.round)) x.name y.pattern (sites_of w) c.witness_of-i.result = λ w x y d o a. subst (λ (i : ℕ). OnList x.name (sites_of w) i × NoneMet ((is_there (fell_of c.args.plan c.args.work.now) c.args.round)) x.name y.pattern (sites_of w) i) (sym c.witness_of-i.ensures)
-    (begins-at ((is_there (fell_of c.args.plan c.args.work.now) c.args.round)) x.name y.pattern (sites_of w) ((get_or c.args.work.now (witnesses c.args.plan + c.args.s) 0)) ((list_head true (get_or c.args.work.now (heads c.args.plan + c.args.f) 0))) (d.headed.head true c.args.f x o.function) a) in
-    let same : let a = c.args in c.witnesses.result + a.s ≡ witnesses a.plan + a.s = ap (λ (k : ℕ). k + c.args.s) c.witnesses.ensures in
-    let below : c.args.s < c.args.plan.sentences = let p = c.requires.0 in omega (arith, element_below (own_sentences p.program.functions) c.args.s p.sentence p.owns.sentence, p.indexed.sentences) in
-    let both_2 : (witnesses c.args.plan + c.args.s < length c.args.work.now) × (length c.args.work.now ≤ 8192) = let d = c.requires.0.indexed in (omega (arith, d.fits, below), d.small) in
-    let both_3 : let a = c.args in (c.witnesses.result + a.s < length a.work.now) × (length a.work.now ≤ 8192) = let w = both_2 in (omega (arith, w.0, same), w.1) in
-    let k = c.witnesses.result + c.args.s in let n = c.args.plan.sites in let i = c.witness_of-i.result in record {
+    let n = c.args.plan.sites in let i = c.witness_of-i.result in record {
       met = λ w x y d o a.
-          let g = both w x y d o a in
+          let g = begins d o a c.witness_of-i.ensures in
           let h : length (sites_of w) ≤ i = omega (arith, c.if-plan-i.true, d.sites) in
           let z : n + 1 ≡ suc i = omega (arith, h, g.0.within, d.sites) in
-          still_by ((is_there (fell_of c.args.plan c.args.work.now) c.args.round)) x.name y.pattern (sites_of w) i (none_left ((is_there (fell_of c.args.plan c.args.work.now) c.args.round)) x.name y.pattern (sites_of w) i g.0 g.1 h)
-          (get_or (set c.args.work.now k (n + 1)) (witnesses c.args.plan + c.args.s) 0) (put-there same c.args.work.now (n + 1) both_3.0 ∙ z) false (sym (le-ltb i (length (sites_of w)) h));
-      others = put-column same used_same (n + 1);
+          let b : c.witnesses.result + c.args.s < length c.args.work.now = omega (arith, witness_inside c.requires.0) in
+          still_by _ _ _ _ i (none_left _ _ _ _ i g.0 g.1 h) _ (put-there c.witnesses.ensures c.args.s c.args.work.now (n + 1) b ∙ z) false (sym (le-ltb i (length (sites_of w)) h));
+      others = put-column c.witnesses.ensures c.args.s used_same (n + 1);
     }
 
 pub offset_bounds-work-k-2 : goal.offset_bounds-work-k-2
-offset_bounds-work-k-2 c =
-    let below : c.args.s < c.args.plan.sentences = let p = c.requires.0 in omega (arith, element_below (own_sentences p.program.functions) c.args.s p.sentence p.owns.sentence, p.indexed.sentences) in
-    let both : (witnesses c.args.plan + c.args.s < length c.args.work.now) × (length c.args.work.now ≤ 8192) = let d = c.requires.0.indexed in (omega (arith, d.fits, below), d.small) in
-    let same : let a = c.args in c.witnesses.result + a.s ≡ witnesses a.plan + a.s = ap (λ (k : ℕ). k + c.args.s) c.witnesses.ensures in
-    let both_2 : let a = c.args in (c.witnesses.result + a.s < length a.work.now) × (length a.work.now ≤ 8192) = let w = both in (omega (arith, w.0, same), w.1) in
-    omega (arith, both_2)
+offset_bounds-work-k-2 c = omega (arith, witness_inside c.requires.0)
 
 pub bounds-work-k-2 : goal.bounds-work-k-2
-bounds-work-k-2 c =
-    let below : c.args.s < c.args.plan.sentences = let p = c.requires.0 in omega (arith, element_below (own_sentences p.program.functions) c.args.s p.sentence p.owns.sentence, p.indexed.sentences) in
-    let both : (witnesses c.args.plan + c.args.s < length c.args.work.now) × (length c.args.work.now ≤ 8192) = let d = c.requires.0.indexed in (omega (arith, d.fits, below), d.small) in
-    let same : let a = c.args in c.witnesses.result + a.s ≡ witnesses a.plan + a.s = ap (λ (k : ℕ). k + c.args.s) c.witnesses.ensures in
-    let both_2 : let a = c.args in (c.witnesses.result + a.s < length a.work.now) × (length a.work.now ≤ 8192) = let w = both in (omega (arith, w.0, same), w.1) in
-    (both_2).0
+bounds-work-k-2 c = omega (arith, witness_inside c.requires.0)
 
 pub site_there-requires : goal.site_there-requires
 site_there-requires c =
@@ -121,32 +96,27 @@ site_there-requires c =
 
 pub returns-then-site_there : goal.returns-then-site_there
 returns-then-site_there c =
-    let same : let a = c.args in c.witnesses.result + a.s ≡ witnesses a.plan + a.s = ap (λ (k : ℕ). k + c.args.s) c.witnesses.ensures in
-    let i = c.witness_of-i.result in record {
+    let keep = is_there (fell_of c.args.plan c.args.work.now) c.args.round in
+    let v = get_or c.args.work.now (witnesses c.args.plan + c.args.s) 0 in
+    let i = c.witness_of-i.result in
+    let e = c.witness_of-i.ensures in record {
       met = λ w x y d o a.
           let h : i < c.args.plan.sites = omega (arith, c.if-plan-i.false) in
           let u = site_element d c.args.f x o.function i h in
-          let e = c.witness_of-i.ensures in
-          let k = ap ((is_there (fell_of c.args.plan c.args.work.now) c.args.round)) (sym (number_is d c.args.f x o.function i u.element u.is)) ∙ sym c.site_there.ensures ∙ c.if-site_there.true in
-          let g = witness-there ((is_there (fell_of c.args.plan c.args.work.now) c.args.round)) x.name y.pattern (sites_of w) ((get_or c.args.work.now (witnesses c.args.plan + c.args.s) 0)) ((list_head true (get_or c.args.work.now (heads c.args.plan + c.args.f) 0))) (λ z. c.if-work-k-ne0.true (ap (λ (j : ℕ). get_or c.args.work.now j 0) same ∙ z)) a u.element (ap (get_elem? (sites_of w)) (sym e) ∙ u.is) k in
-          still_by ((is_there (fell_of c.args.plan c.args.work.now) c.args.round)) x.name y.pattern (sites_of w) (witness_from ((get_or c.args.work.now (witnesses c.args.plan + c.args.s) 0)) ((list_head true (get_or c.args.work.now (heads c.args.plan + c.args.f) 0)))) g.0 ((get_or c.args.work.now (witnesses c.args.plan + c.args.s) 0)) g.1 true
-          (sym (lt-ltb (witness_from ((get_or c.args.work.now (witnesses c.args.plan + c.args.s) 0)) ((list_head true (get_or c.args.work.now (heads c.args.plan + c.args.f) 0)))) (length (sites_of w)) (omega (arith, e, h, d.sites))));
+          let k = ap keep (sym (number_is d c.args.f x o.function i u.element u.is)) ∙ sym c.site_there.ensures ∙ c.if-site_there.true in
+          let n = witness_from v (list_head true (get_or c.args.work.now (heads c.args.plan + c.args.f) 0)) in
+          let g = witness-there keep x.name y.pattern (sites_of w) v (list_head true (get_or c.args.work.now (heads c.args.plan + c.args.f) 0)) (λ z. c.if-work-k-ne0.true (ap (λ (j : ℕ). get_or c.args.work.now (j + c.args.s) 0) c.witnesses.ensures ∙ z)) a u.element (ap (get_elem? (sites_of w)) (sym e) ∙ u.is) k in
+          still_by keep x.name y.pattern (sites_of w) n g.0 v g.1 true (sym (lt-ltb n (length (sites_of w)) (omega (arith, e, h, d.sites))));
       others = no_column c.args.plan c.args.work.now (witnesses c.args.plan + c.args.s);
     }
 
 pub pattern_place-pattern-requires : goal.pattern_place-pattern-requires
 pattern_place-pattern-requires c =
-    let below : c.args.s < c.args.plan.sentences = let p = c.requires.0 in omega (arith, element_below (own_sentences p.program.functions) c.args.s p.sentence p.owns.sentence, p.indexed.sentences) in
-    let d = c.requires.0.indexed in (below, (omega (arith, d.fits), d.small))
+    let d = c.requires.0.indexed in
+    ((witness_inside c.requires.0).0, (omega (arith, d.fits), d.small))
 
 pub meeting_from-requires : goal.meeting_from-requires
 meeting_from-requires c =
-    let IndexedHere : Program → Type 0 = λ w. Indexed c.args.b.now w c.args.work.now c.args.plan in
-    let OwnsHere : Program → Function → Sentence → Type 0 = λ w x y. Owns w c.args.f x c.args.s y in
-    let WitnessOfHere : Program → Function → Sentence → Type 0 = λ w x y. WitnessOf ((is_there (fell_of c.args.plan c.args.work.now) c.args.round)) x.name y.pattern (sites_of w) ((get_or c.args.work.now (witnesses c.args.plan + c.args.s) 0)) in
-    let both : (w : Program) (x : Function) (y : Sentence) → IndexedHere w → OwnsHere w x y → WitnessOfHere w x y → OnList x.name (sites_of w) c.witness_of-i.result × NoneMet ((is_there (fell_of c.args.plan c.args.work.now) c.args.round)) x.name y.pattern (sites_of w) c.witness_of-i.result = λ w x y d o a. subst (λ (i : ℕ). OnList x.name (sites_of w) i × NoneMet ((is_there (fell_of c.args.plan c.args.work.now) c.args.round)) x.name y.pattern (sites_of w) i) (sym c.witness_of-i.ensures)
-    (begins-at ((is_there (fell_of c.args.plan c.args.work.now) c.args.round)) x.name y.pattern (sites_of w) ((get_or c.args.work.now (witnesses c.args.plan + c.args.s) 0)) ((list_head true (get_or c.args.work.now (heads c.args.plan + c.args.f) 0))) (d.headed.head true c.args.f x o.function) a) in
-    let terms_at : (w : Program) (x : Function) (y : Sentence) → IndexedHere w → OwnsHere w x y → TermsAt Mode.pattern (drop c.pattern_place-pattern.result c.args.b.now) = λ w x y d o. pattern-there (d.sentence.entry c.args.s y o.sentence) c.pattern_place-pattern.result c.pattern_place-pattern.ensures.0 in
     let p = c.requires.0 in (
       record {
         program = p.program;
@@ -154,114 +124,63 @@ meeting_from-requires c =
         place = c.args.f;
         function = p.function;
         is = p.owns.function;
-        listed = (both p.program p.function p.sentence p.indexed p.owns p.witnessed).0;
-        reading = terms_at p.program p.function p.sentence p.indexed p.owns;
+        listed = (begins p.indexed p.owns p.witnessed c.witness_of-i.ensures).0;
+        reading = pattern-there (p.indexed.sentence.entry c.args.s p.sentence p.owns.sentence) c.pattern_place-pattern.result c.pattern_place-pattern.ensures.0;
       },
       c.requires.1,
     )
 
+-- The site that the search finds is the first that is met.
+first_met : (c : In-Some) (w : Program) (x : Function) (y : Sentence) → Indexed c.args.b.now w c.args.work.now c.args.plan → Owns w c.args.f x c.args.s y
+    → WitnessOf (is_there (fell_of c.args.plan c.args.work.now) c.args.round) x.name y.pattern (sites_of w) (get_or c.args.work.now (witnesses c.args.plan + c.args.s) 0)
+    → First (meets (is_there (fell_of c.args.plan c.args.work.now) c.args.round) x.name y.pattern) 0 (sites_of w) c.in-Some.next × (c.in-Some.next < length (sites_of w))
+first_met c w x y d o a =
+    let i = begins d o a c.witness_of-i.ensures in
+    c.in-Some.ensures.met w c.args.f x d o.function i.0 (pattern-there (d.sentence.entry c.args.s y o.sentence) c.pattern_place-pattern.result c.pattern_place-pattern.ensures.0) i.1
+
+next_below : (c : In-Some) → c.in-Some.next < 8192
+next_below c =
+    let p = c.requires.0 in
+    omega (arith, (first_met c p.program p.function p.sentence p.indexed p.owns p.witnessed).1, p.indexed.sites, p.indexed.fits, p.indexed.small)
+
 pub overflow_cast-work-in-Some : goal.overflow_cast-work-in-Some
-overflow_cast-work-in-Some c =
-    let IndexedHere : Program → Type 0 = λ w. Indexed c.args.b.now w c.args.work.now c.args.plan in
-    let OwnsHere : Program → Function → Sentence → Type 0 = λ w x y. Owns w c.args.f x c.args.s y in
-    let WitnessOfHere : Program → Function → Sentence → Type 0 = λ w x y. WitnessOf ((is_there (fell_of c.args.plan c.args.work.now) c.args.round)) x.name y.pattern (sites_of w) ((get_or c.args.work.now (witnesses c.args.plan + c.args.s) 0)) in
-    let both : (w : Program) (x : Function) (y : Sentence) → IndexedHere w → OwnsHere w x y → WitnessOfHere w x y → OnList x.name (sites_of w) c.witness_of-i.result × NoneMet ((is_there (fell_of c.args.plan c.args.work.now) c.args.round)) x.name y.pattern (sites_of w) c.witness_of-i.result = λ w x y d o a. subst (λ (i : ℕ). OnList x.name (sites_of w) i × NoneMet ((is_there (fell_of c.args.plan c.args.work.now) c.args.round)) x.name y.pattern (sites_of w) i) (sym c.witness_of-i.ensures)
-    (begins-at ((is_there (fell_of c.args.plan c.args.work.now) c.args.round)) x.name y.pattern (sites_of w) ((get_or c.args.work.now (witnesses c.args.plan + c.args.s) 0)) ((list_head true (get_or c.args.work.now (heads c.args.plan + c.args.f) 0))) (d.headed.head true c.args.f x o.function) a) in
-    let terms_at : (w : Program) (x : Function) (y : Sentence) → IndexedHere w → OwnsHere w x y → TermsAt Mode.pattern (drop c.pattern_place-pattern.result c.args.b.now) = λ w x y d o. pattern-there (d.sentence.entry c.args.s y o.sentence) c.pattern_place-pattern.result c.pattern_place-pattern.ensures.0 in
-    let first : (w : Program) (x : Function) (y : Sentence) → IndexedHere w → OwnsHere w x y → WitnessOfHere w x y → (First (meets ((is_there (fell_of c.args.plan c.args.work.now) c.args.round)) x.name y.pattern) 0 (sites_of w) c.in-Some.next × (c.in-Some.next < length (sites_of w))) = λ w x y d o a. let i = both w x y d o a in
-    c.in-Some.ensures.met w c.args.f x d o.function i.0 (terms_at w x y d o) i.1 in
-    let inside : c.in-Some.next < 8192 = let p = c.requires.0 in omega (arith, (first p.program p.function p.sentence p.indexed p.owns p.witnessed).1, p.indexed.sites, p.indexed.fits, p.indexed.small) in
-    omega (arith, inside)
+overflow_cast-work-in-Some c = omega (arith, next_below c)
 
 pub overflow_add-work-in-Some : goal.overflow_add-work-in-Some
-overflow_add-work-in-Some c =
-    let IndexedHere : Program → Type 0 = λ w. Indexed c.args.b.now w c.args.work.now c.args.plan in
-    let OwnsHere : Program → Function → Sentence → Type 0 = λ w x y. Owns w c.args.f x c.args.s y in
-    let WitnessOfHere : Program → Function → Sentence → Type 0 = λ w x y. WitnessOf ((is_there (fell_of c.args.plan c.args.work.now) c.args.round)) x.name y.pattern (sites_of w) ((get_or c.args.work.now (witnesses c.args.plan + c.args.s) 0)) in
-    let both : (w : Program) (x : Function) (y : Sentence) → IndexedHere w → OwnsHere w x y → WitnessOfHere w x y → OnList x.name (sites_of w) c.witness_of-i.result × NoneMet ((is_there (fell_of c.args.plan c.args.work.now) c.args.round)) x.name y.pattern (sites_of w) c.witness_of-i.result = λ w x y d o a. subst (λ (i : ℕ). OnList x.name (sites_of w) i × NoneMet ((is_there (fell_of c.args.plan c.args.work.now) c.args.round)) x.name y.pattern (sites_of w) i) (sym c.witness_of-i.ensures)
-    (begins-at ((is_there (fell_of c.args.plan c.args.work.now) c.args.round)) x.name y.pattern (sites_of w) ((get_or c.args.work.now (witnesses c.args.plan + c.args.s) 0)) ((list_head true (get_or c.args.work.now (heads c.args.plan + c.args.f) 0))) (d.headed.head true c.args.f x o.function) a) in
-    let terms_at : (w : Program) (x : Function) (y : Sentence) → IndexedHere w → OwnsHere w x y → TermsAt Mode.pattern (drop c.pattern_place-pattern.result c.args.b.now) = λ w x y d o. pattern-there (d.sentence.entry c.args.s y o.sentence) c.pattern_place-pattern.result c.pattern_place-pattern.ensures.0 in
-    let first : (w : Program) (x : Function) (y : Sentence) → IndexedHere w → OwnsHere w x y → WitnessOfHere w x y → (First (meets ((is_there (fell_of c.args.plan c.args.work.now) c.args.round)) x.name y.pattern) 0 (sites_of w) c.in-Some.next × (c.in-Some.next < length (sites_of w))) = λ w x y d o a. let i = both w x y d o a in
-    c.in-Some.ensures.met w c.args.f x d o.function i.0 (terms_at w x y d o) i.1 in
-    let inside : c.in-Some.next < 8192 = let p = c.requires.0 in omega (arith, (first p.program p.function p.sentence p.indexed p.owns p.witnessed).1, p.indexed.sites, p.indexed.fits, p.indexed.small) in
-    omega (arith, inside)
+overflow_add-work-in-Some c = omega (arith, next_below c)
 
 pub offset_bounds-work-k-in-Some : goal.offset_bounds-work-k-in-Some
-offset_bounds-work-k-in-Some c =
-    let below : c.args.s < c.args.plan.sentences = let p = c.requires.0 in omega (arith, element_below (own_sentences p.program.functions) c.args.s p.sentence p.owns.sentence, p.indexed.sentences) in
-    let both_2 : (witnesses c.args.plan + c.args.s < length c.args.work.now) × (length c.args.work.now ≤ 8192) = let d = c.requires.0.indexed in (omega (arith, d.fits, below), d.small) in
-    let same : let a = c.args in c.witnesses.result + a.s ≡ witnesses a.plan + a.s = ap (λ (k : ℕ). k + c.args.s) c.witnesses.ensures in
-    let both_3 : let a = c.args in (c.witnesses.result + a.s < length a.work.now) × (length a.work.now ≤ 8192) = let w = both_2 in (omega (arith, w.0, same), w.1) in
-    omega (arith, both_3)
+offset_bounds-work-k-in-Some c = omega (arith, witness_inside c.requires.0)
 
 pub bounds-work-k-in-Some : goal.bounds-work-k-in-Some
-bounds-work-k-in-Some c =
-    let below : c.args.s < c.args.plan.sentences = let p = c.requires.0 in omega (arith, element_below (own_sentences p.program.functions) c.args.s p.sentence p.owns.sentence, p.indexed.sentences) in
-    let both_2 : (witnesses c.args.plan + c.args.s < length c.args.work.now) × (length c.args.work.now ≤ 8192) = let d = c.requires.0.indexed in (omega (arith, d.fits, below), d.small) in
-    let same : let a = c.args in c.witnesses.result + a.s ≡ witnesses a.plan + a.s = ap (λ (k : ℕ). k + c.args.s) c.witnesses.ensures in
-    let both_3 : let a = c.args in (c.witnesses.result + a.s < length a.work.now) × (length a.work.now ≤ 8192) = let w = both_2 in (omega (arith, w.0, same), w.1) in
-    omega (arith, both_3, c.meeting_from.ensures.keeps.length)
+bounds-work-k-in-Some c = omega (arith, witness_inside c.requires.0, c.meeting_from.ensures.keeps.length)
 
 pub offset_bounds-work-k-in-None : goal.offset_bounds-work-k-in-None
-offset_bounds-work-k-in-None c =
-    let below : c.args.s < c.args.plan.sentences = let p = c.requires.0 in omega (arith, element_below (own_sentences p.program.functions) c.args.s p.sentence p.owns.sentence, p.indexed.sentences) in
-    let both_2 : (witnesses c.args.plan + c.args.s < length c.args.work.now) × (length c.args.work.now ≤ 8192) = let d = c.requires.0.indexed in (omega (arith, d.fits, below), d.small) in
-    let same : let a = c.args in c.witnesses.result + a.s ≡ witnesses a.plan + a.s = ap (λ (k : ℕ). k + c.args.s) c.witnesses.ensures in
-    let both_3 : let a = c.args in (c.witnesses.result + a.s < length a.work.now) × (length a.work.now ≤ 8192) = let w = both_2 in (omega (arith, w.0, same), w.1) in
-    omega (arith, both_3)
+offset_bounds-work-k-in-None c = omega (arith, witness_inside c.requires.0)
 
 pub bounds-work-k-in-None : goal.bounds-work-k-in-None
-bounds-work-k-in-None c =
-    let below : c.args.s < c.args.plan.sentences = let p = c.requires.0 in omega (arith, element_below (own_sentences p.program.functions) c.args.s p.sentence p.owns.sentence, p.indexed.sentences) in
-    let both_2 : (witnesses c.args.plan + c.args.s < length c.args.work.now) × (length c.args.work.now ≤ 8192) = let d = c.requires.0.indexed in (omega (arith, d.fits, below), d.small) in
-    let same : let a = c.args in c.witnesses.result + a.s ≡ witnesses a.plan + a.s = ap (λ (k : ℕ). k + c.args.s) c.witnesses.ensures in
-    let both_3 : let a = c.args in (c.witnesses.result + a.s < length a.work.now) × (length a.work.now ≤ 8192) = let w = both_2 in (omega (arith, w.0, same), w.1) in
-    omega (arith, both_3, c.meeting_from.ensures.keeps.length)
+bounds-work-k-in-None c = omega (arith, witness_inside c.requires.0, c.meeting_from.ensures.keeps.length)
 
 pub returns-in-Some : goal.returns-in-Some
 returns-in-Some c =
-    let IndexedHere : Program → Type 0 = λ w. Indexed c.args.b.now w c.args.work.now c.args.plan in
-    let OwnsHere : Program → Function → Sentence → Type 0 = λ w x y. Owns w c.args.f x c.args.s y in
-    let WitnessOfHere : Program → Function → Sentence → Type 0 = λ w x y. WitnessOf ((is_there (fell_of c.args.plan c.args.work.now) c.args.round)) x.name y.pattern (sites_of w) ((get_or c.args.work.now (witnesses c.args.plan + c.args.s) 0)) in
-    let both : (w : Program) (x : Function) (y : Sentence) → IndexedHere w → OwnsHere w x y → WitnessOfHere w x y → OnList x.name (sites_of w) c.witness_of-i.result × NoneMet ((is_there (fell_of c.args.plan c.args.work.now) c.args.round)) x.name y.pattern (sites_of w) c.witness_of-i.result = λ w x y d o a. subst (λ (i : ℕ). OnList x.name (sites_of w) i × NoneMet ((is_there (fell_of c.args.plan c.args.work.now) c.args.round)) x.name y.pattern (sites_of w) i) (sym c.witness_of-i.ensures)
-    (begins-at ((is_there (fell_of c.args.plan c.args.work.now) c.args.round)) x.name y.pattern (sites_of w) ((get_or c.args.work.now (witnesses c.args.plan + c.args.s) 0)) ((list_head true (get_or c.args.work.now (heads c.args.plan + c.args.f) 0))) (d.headed.head true c.args.f x o.function) a) in
-    let terms_at : (w : Program) (x : Function) (y : Sentence) → IndexedHere w → OwnsHere w x y → TermsAt Mode.pattern (drop c.pattern_place-pattern.result c.args.b.now) = λ w x y d o. pattern-there (d.sentence.entry c.args.s y o.sentence) c.pattern_place-pattern.result c.pattern_place-pattern.ensures.0 in
-    let first : (w : Program) (x : Function) (y : Sentence) → IndexedHere w → OwnsHere w x y → WitnessOfHere w x y → (First (meets ((is_there (fell_of c.args.plan c.args.work.now) c.args.round)) x.name y.pattern) 0 (sites_of w) c.in-Some.next × (c.in-Some.next < length (sites_of w))) = λ w x y d o a. let i = both w x y d o a in
-    c.in-Some.ensures.met w c.args.f x d o.function i.0 (terms_at w x y d o) i.1 in
-    let below : c.args.s < c.args.plan.sentences = let p = c.requires.0 in omega (arith, element_below (own_sentences p.program.functions) c.args.s p.sentence p.owns.sentence, p.indexed.sentences) in
-    let both_2 : (witnesses c.args.plan + c.args.s < length c.args.work.now) × (length c.args.work.now ≤ 8192) = let d = c.requires.0.indexed in (omega (arith, d.fits, below), d.small) in
-    let same : let a = c.args in c.witnesses.result + a.s ≡ witnesses a.plan + a.s = ap (λ (k : ℕ). k + c.args.s) c.witnesses.ensures in
-    let both_3 : let a = c.args in (c.witnesses.result + a.s < length a.work.now) × (length a.work.now ≤ 8192) = let w = both_2 in (omega (arith, w.0, same), w.1) in
-    let below_2 : c.witnesses.result + c.args.s < length c.meeting_from.new.work = omega (arith, both_3, c.meeting_from.ensures.keeps.length) in
-    let k = c.witnesses.result + c.args.s in record {
+    let m = c.meeting_from.new.work in let n = c.in-Some.next in record {
       met = λ w x y d o a.
-          let m = c.meeting_from.new.work in
-          let z : c.in-Some.next + 1 ≡ suc c.in-Some.next = omega arith in
-          still_by (is_there (fell_of c.args.plan c.args.work.now) c.args.round) x.name y.pattern (sites_of w) c.in-Some.next (first w x y d o a).0
-          (get_or (set m k (c.in-Some.next + 1)) (witnesses c.args.plan + c.args.s) 0) (put-there same m (c.in-Some.next + 1) below_2 ∙ z) true (sym (lt-ltb c.in-Some.next (length (sites_of w)) (first w x y d o a).1));
-      others = put-column same c.meeting_from.ensures.keeps (c.in-Some.next + 1);
+          let g = first_met c w x y d o a in
+          let z : n + 1 ≡ suc n = omega arith in
+          let b : c.witnesses.result + c.args.s < length m = bounds-work-k-in-Some c in
+          still_by _ _ _ _ n g.0 _ (put-there c.witnesses.ensures c.args.s m (n + 1) b ∙ z) true (sym (lt-ltb n (length (sites_of w)) g.1));
+      others = put-column c.witnesses.ensures c.args.s c.meeting_from.ensures.keeps (n + 1);
     }
 
 pub returns-in-None : goal.returns-in-None
 returns-in-None c =
-    let IndexedHere : Program → Type 0 = λ w. Indexed c.args.b.now w c.args.work.now c.args.plan in
-    let OwnsHere : Program → Function → Sentence → Type 0 = λ w x y. Owns w c.args.f x c.args.s y in
-    let WitnessOfHere : Program → Function → Sentence → Type 0 = λ w x y. WitnessOf ((is_there (fell_of c.args.plan c.args.work.now) c.args.round)) x.name y.pattern (sites_of w) ((get_or c.args.work.now (witnesses c.args.plan + c.args.s) 0)) in
-    let both : (w : Program) (x : Function) (y : Sentence) → IndexedHere w → OwnsHere w x y → WitnessOfHere w x y → OnList x.name (sites_of w) c.witness_of-i.result × NoneMet ((is_there (fell_of c.args.plan c.args.work.now) c.args.round)) x.name y.pattern (sites_of w) c.witness_of-i.result = λ w x y d o a. subst (λ (i : ℕ). OnList x.name (sites_of w) i × NoneMet ((is_there (fell_of c.args.plan c.args.work.now) c.args.round)) x.name y.pattern (sites_of w) i) (sym c.witness_of-i.ensures)
-    (begins-at ((is_there (fell_of c.args.plan c.args.work.now) c.args.round)) x.name y.pattern (sites_of w) ((get_or c.args.work.now (witnesses c.args.plan + c.args.s) 0)) ((list_head true (get_or c.args.work.now (heads c.args.plan + c.args.f) 0))) (d.headed.head true c.args.f x o.function) a) in
-    let terms_at : (w : Program) (x : Function) (y : Sentence) → IndexedHere w → OwnsHere w x y → TermsAt Mode.pattern (drop c.pattern_place-pattern.result c.args.b.now) = λ w x y d o. pattern-there (d.sentence.entry c.args.s y o.sentence) c.pattern_place-pattern.result c.pattern_place-pattern.ensures.0 in
-    let first : (w : Program) (x : Function) (y : Sentence) → IndexedHere w → OwnsHere w x y → WitnessOfHere w x y → First (meets ((is_there (fell_of c.args.plan c.args.work.now) c.args.round)) x.name y.pattern) 0 (sites_of w) (length (sites_of w)) = λ w x y d o a. let i = both w x y d o a in
-    c.in-None.ensures.met w c.args.f x d o.function i.0 (terms_at w x y d o) i.1 in
-    let below : c.args.s < c.args.plan.sentences = let p = c.requires.0 in omega (arith, element_below (own_sentences p.program.functions) c.args.s p.sentence p.owns.sentence, p.indexed.sentences) in
-    let both_2 : (witnesses c.args.plan + c.args.s < length c.args.work.now) × (length c.args.work.now ≤ 8192) = let d = c.requires.0.indexed in (omega (arith, d.fits, below), d.small) in
-    let same : let a = c.args in c.witnesses.result + a.s ≡ witnesses a.plan + a.s = ap (λ (k : ℕ). k + c.args.s) c.witnesses.ensures in
-    let both_3 : let a = c.args in (c.witnesses.result + a.s < length a.work.now) × (length a.work.now ≤ 8192) = let w = both_2 in (omega (arith, w.0, same), w.1) in
-    let below_2 : c.witnesses.result + c.args.s < length c.meeting_from.new.work = omega (arith, both_3, c.meeting_from.ensures.keeps.length) in
-    let k = c.witnesses.result + c.args.s in record {
+    let m = c.meeting_from.new.work in let n = c.args.plan.sites in record {
       met = λ w x y d o a.
-          let m = c.meeting_from.new.work in
-          let z : c.args.plan.sites + 1 ≡ suc (length (sites_of w)) = omega (arith, d.sites) in
-          still_by (is_there (fell_of c.args.plan c.args.work.now) c.args.round) x.name y.pattern (sites_of w) (length (sites_of w)) (first w x y d o a)
-          (get_or (set m k (c.args.plan.sites + 1)) (witnesses c.args.plan + c.args.s) 0) (put-there same m (c.args.plan.sites + 1) below_2 ∙ z) false (sym (le-ltb (length (sites_of w)) (length (sites_of w)) (omega arith)));
-      others = put-column same c.meeting_from.ensures.keeps (c.args.plan.sites + 1);
+          let i = begins d o a c.witness_of-i.ensures in
+          let l = length (sites_of w) in
+          let t = pattern-there (d.sentence.entry c.args.s y o.sentence) c.pattern_place-pattern.result c.pattern_place-pattern.ensures.0 in
+          let z : n + 1 ≡ suc l = omega (arith, d.sites) in
+          let b : c.witnesses.result + c.args.s < length m = bounds-work-k-in-None c in
+          still_by _ _ _ _ l (c.in-None.ensures.met w c.args.f x d o.function i.0 t i.1) _ (put-there c.witnesses.ensures c.args.s m (n + 1) b ∙ z) false (sym (le-ltb l l (omega arith)));
+      others = put-column c.witnesses.ensures c.args.s c.meeting_from.ensures.keeps (n + 1);
     }

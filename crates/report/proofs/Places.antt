@@ -5,7 +5,7 @@ use mathlib.Core.Path.{◌≡◌, sym, ap, subst, ◌∙◌}
 use mathlib.Core.List.{List}
 use mathlib.Core.Option.{some}
 use lib.ListN.{length, get_or, get_elem?, drop, length-drop}
-use Rattle.program.specs.Syntax.{Name, Function, Program}
+use Rattle.program.specs.Syntax.{Name, Terms, Function, Program}
 use Rattle.program.specs.Encode.{put_sentences}
 use Rattle.program.specs.Limits.{Mode}
 use Rattle.image.specs.Parts.{TermsAt, FunctionAt}
@@ -22,7 +22,9 @@ use Rattle.cleaning.proofs.Meeting.{pattern_part}
 use Rattle.cleaning.proofs.Witnesses.{pattern-there}
 use Rattle.cleaning.specs.Walks.{Owns}
 use Rattle.text.proofs.Formatting.{terms_text_fits}
+use Rattle.report.specs.declared.listing.Candidate.{Candidate}
 use Rattle.report.specs.Emitting.{Readable}
+use Rattle.report.specs.Listing.{Stands}
 
 -- A function of that name stands at n of b.
 pub record NamedAt (b : List ℕ) (n : ℕ) (f : Name) : Type 0 where
@@ -42,6 +44,9 @@ module _ {b : List ℕ} {w : Program} {m : List ℕ} {p : Plan} (d : Readable b 
 
   pub sentence_of : (s : ℕ) → s < p.sentences → Element (own_sentences w.functions) s
   sentence_of s h = element_at (own_sentences w.functions) s (omega (arith, d.indexed.sentences))
+
+  pub stands_below : {c : Candidate} {x : Function} {r : Terms} → Stands b w c x r → c.function < p.functions
+  stands_below {c} {x} s = omega (arith, element_below w.functions c.function x s.function, d.indexed.functions)
 
   pub owner_below : {f s : ℕ} {x : Function} {y : Sentence} → Owns w f x s y → f < p.functions
   owner_below {f} {x} o = omega (arith, element_below w.functions f x o.function, d.indexed.functions)

@@ -5,18 +5,20 @@ use Rattle.report.specs.declared.listing.Candidate.{Candidate}
 use Prim.Native.Nat.{ℕ, zero, suc, ◌+◌, ◌<◌, ◌≤◌}
 use native.Mathlib.Omega.{arith}
 use mathlib.Core.Path.{◌≡◌, refl, sym, ap, ap₂, subst, ◌∙◌}
-use mathlib.Core.Bool.{Bool, true, false, cond}
-use mathlib.Core.List.{List, [], ◌∷◌, ◌++◌, flat_map, append_assoc, append-nil}
+use mathlib.Core.Bool.{Bool, true, false, ◌&&◌, ◌||◌, cond, or-false}
+use mathlib.Core.List.{List, [], ◌∷◌, ◌++◌, map, flat_map, append_assoc, append-nil}
 use mathlib.Core.Option.{some}
 use lib.ListN.{length, get_elem?, take, length-append}
 use Rattle.meaning.specs.Lists.{any}
 use Rattle.index.proofs.First.{element_same}
-use Rattle.meaning.specs.Text.{Text}
+use Rattle.program.specs.Syntax.{Terms, Function, Program}
+use Rattle.patterns.specs.Names.{eq_bytes}
+use Rattle.meaning.specs.Text.{Text, format_terms}
 use Rattle.told.specs.ToldReport.{judged_only, runs_after}
 use Rattle.text.specs.declared.writer.Writer.{Writer}
 use Rattle.text.specs.Written.{written}
 use Rattle.text.proofs.Written.{written-nothing, both, same as of_same}
-use Rattle.report.specs.Listing.{last_of, each_from, Listing, LastIn}
+use Rattle.report.specs.Listing.{last_of, each_from, Named, named, same_named, named_line, Stands, StandsFor, nothing, candidate, Listing}
 
 -- ---- runs
 
@@ -40,47 +42,83 @@ unfolding flat_map
 flat_append f [] m = refl
 flat_append f (x ∷ l) m = ap (λ (k : List _). f x ++ k) (flat_append f l m) ∙ sym (append_assoc (f x) (flat_map f l) (flat_map f m))
 
-module _ {A : Type 0} (line : A → Text) (same : A → A → Bool) where
-  pub listing-nothing : (last : List A) (s : Writer) (count : ℕ) → Listing line same last [] last s count s count
-  unfolding runs_after last_of flat_map
-  listing-nothing last s count = record { text = written-nothing s; told = omega arith; is = refl }
+map_append : {A B : Type 0} (f : A → B) (l m : List A) → map f (l ++ m) ≡ map f l ++ map f m
+map_append f [] m = refl
+map_append f (x ∷ l) m = ap (λ (k : List _). f x ∷ k) (map_append f l m)
 
-  pub listing-append : (last l m : List A) {next after : List A} {s b d : Writer} {count n k : ℕ} → Listing line same last l next s count b n → Listing line same next m after b n d k
-      → Listing line same last (l ++ m) after s count d k
-  listing-append last l m {next} {after} {s} {b} x y =
-      let e : runs_after same next m ≡ runs_after same (last_of last l) m = ap (λ (z : List A). runs_after same z m) x.is in
+pub listing-nothing : {before after : Text} {b : List ℕ} {w : Program} (last : Option Candidate) (v : Writer) (count : ℕ) → Listing before after b w [] v count last v count last
+unfolding runs_after last_of flat_map
+listing-nothing last v count = record { text = λ z h. written-nothing v; told = λ z h. omega arith; is = λ z h. h }
+
+-- Of what elements of some list tell.
+module _ {A : Type 0} (of : A → Named) where
+  pub listing-append : (l m : List A) {before after : Text} {b : List ℕ} {w : Program} {s : Writer} {count : ℕ} {last : Option Candidate} {c : Writer} {n : ℕ} {next : Option Candidate} {d : Writer} {k : ℕ} {final : Option Candidate}
+      → Listing before after b w (map of l) s count last c n next → Listing before after b w (map of m) c n next d k final → Listing before after b w (map of (l ++ m)) s count last d k final
+  listing-append l m {before} {after} {b} {w} {s} {count} {last} {c} {n} {next} {d} {k} {final} x y = subst (λ (q : List Named). Listing before after b w q s count last d k final) (sym (map_append of l m)) (record {
+    text = λ z h.
+        of_same s (sym (ap (flat_map (named_line before after)) (runs_append same_named (map of l) (map of m) z) ∙ flat_append (named_line before after) (runs_after same_named z (map of l)) (runs_after same_named (last_of z (map of l)) (map of m))))
+        (both s (flat_map (named_line before after) (runs_after same_named z (map of l))) (flat_map (named_line before after) (runs_after same_named (last_of z (map of l)) (map of m))) (x.text z h) (y.text (last_of z (map of l)) (x.is z h)));
+    told = λ z h. omega (arith, x.told z h, y.told (last_of z (map of l)) (x.is z h), ap length (runs_append same_named (map of l) (map of m) z), length-append (runs_after same_named z (map of l)) (runs_after same_named (last_of z (map of l)) (map of m)));
+    is = λ z h. subst (StandsFor b w final) (sym (last-append (map of l) (map of m) z)) (y.is (last_of z (map of l)) (x.is z h));
+  })
+
+  pub listing-same : {l m : List A} {before after : Text} {b : List ℕ} {w : Program} {s : Writer} {count : ℕ} {last : Option Candidate} {c : Writer} {n : ℕ} {next : Option Candidate}
+      → l ≡ m → Listing before after b w (map of l) s count last c n next → Listing before after b w (map of m) s count last c n next
+  listing-same {before} {after} {b} {w} {s} {count} {last} {c} {n} {next} e x = subst (λ (k : List A). Listing before after b w (map of k) s count last c n next) e x
+
+  -- A list of its own elements, whose lines and repeats are those of what they tell.
+  module _ (before after : Text) (line : A → Text) (same : A → A → Bool) (g : (x : A) → named_line before after (of x) ≡ line x) (h : (x y : A) → same_named (of x) (of y) ≡ same x y) where
+    lines_are : (l : List A) → flat_map (named_line before after) (map of l) ≡ flat_map line l
+    unfolding flat_map
+    lines_are [] = refl
+    lines_are (x ∷ l) = ap₂ (λ (a b : Text). a ++ b) (g x) (lines_are l)
+
+    any_are : (x : A) (z : List A) → any (λ v. same_named v (of x)) (map of z) ≡ any (λ v. same v x) z
+    unfolding any
+    any_are x [] = refl
+    any_are x (y ∷ z) = ap₂ (λ (a b : Bool). a || b) (h y x) (any_are x z)
+
+    runs_are : (l z : List A) → runs_after same_named (map of z) (map of l) ≡ map of (runs_after same z l)
+    unfolding runs_after
+    runs_are [] z = refl
+    runs_are (x ∷ l) z = by (any (λ v. same v x) z) (any_are x z) (runs_are l (x ∷ []))
+      where
+        by : (t : Bool) {u : Bool} → u ≡ t → {m : List Named} → m ≡ map of (runs_after same (x ∷ []) l) → cond u m (of x ∷ m) ≡ map of (cond t (runs_after same (x ∷ []) l) (x ∷ runs_after same (x ∷ []) l))
+        by true e {m} f = ap (λ (u : Bool). cond u m (of x ∷ m)) e ∙ f
+        by false e {m} f = ap (λ (u : Bool). cond u m (of x ∷ m)) e ∙ ap (λ (k : List Named). of x ∷ k) f
+
+    map_length : (l : List A) → length (map of l) ≡ length l
+    map_length [] = refl
+    map_length (x ∷ l) = ap suc (map_length l)
+
+    module _ (l : List A) {b : List ℕ} {w : Program} {v : Writer} {count : ℕ} {u : Writer} {counted : ℕ} {next : Option Candidate} (x : Listing before after b w (map of l) v count None u counted next) where
+      pub listing_text : u ≡ written v (flat_map line (runs_after same [] l))
+      listing_text = of_same v (ap (flat_map (named_line before after)) (runs_are l []) ∙ lines_are (runs_after same [] l)) (x.text [] nothing)
+
+      pub listing_told : counted ≡ count + length (runs_after same [] l)
+      listing_told = omega (arith, x.told [] nothing, ap length (runs_are l []), map_length (runs_after same [] l))
+
+-- One candidate, which repeats the last or does not.
+module _ {b : List ℕ} {w : Program} {next : Candidate} {x : Function} {r : Terms} (e : Stands b w next x r) (before after : Text) (last : Option Candidate) where
+  pub listing-repeat : ((z : List Named) → StandsFor b w last z → any (λ y. same_named y (named x r)) z ≡ true) → (v : Writer) (count : ℕ) → Listing before after b w (named x r ∷ []) v count last v count (Some next)
+  unfolding runs_after last_of flat_map
+  listing-repeat h v count =
+      let f : (z : List Named) → StandsFor b w last z → runs_after same_named z (named x r ∷ []) ≡ [] = λ z g. ap (λ (t : Bool). cond t [] (named x r ∷ [])) (h z g) in
       record {
-        text =
-            of_same s (sym (ap (flat_map line) (runs_append same l m last) ∙ flat_append line (runs_after same last l) (runs_after same (last_of last l) m)))
-            (both s (flat_map line (runs_after same last l)) (flat_map line (runs_after same (last_of last l) m)) x.text (of_same b (ap (flat_map line) e) y.text));
-        told = omega (arith, x.told, y.told, ap length e, ap length (runs_append same l m last), length-append (runs_after same last l) (runs_after same (last_of last l) m));
-        is = y.is ∙ (ap (λ (z : List A). last_of z m) x.is ∙ sym (last-append l m last));
+        text = λ z g. of_same v (sym (ap (flat_map (named_line before after)) (f z g))) (written-nothing v);
+        told = λ z g. omega (arith, ap length (f z g));
+        is = λ z g. candidate e;
       }
 
-  pub listing-same : {last l m next : List A} {s b : Writer} {count n : ℕ} → l ≡ m → Listing line same last l next s count b n → Listing line same last m next s count b n
-  listing-same {last} {l} {m} {next} {s} {b} {count} {n} e x = subst (λ (k : List A). Listing line same last k next s count b n) e x
-
-  -- One candidate, which repeats the last or does not.
-  module _ (last next : List A) (z : A) (e : next ≡ z ∷ []) where
-    pub listing-repeat : any (λ y. same y z) last ≡ true → (s : Writer) (count : ℕ) → Listing line same last (z ∷ []) next s count s count
-    unfolding runs_after last_of flat_map
-    listing-repeat h s count =
-        let f : runs_after same last (z ∷ []) ≡ [] = ap (λ (t : Bool). cond t [] (z ∷ [])) h in
-        record {
-          text = of_same s (sym (ap (flat_map line) f)) (written-nothing s);
-          told = omega (arith, ap length f);
-          is = e;
-        }
-
-    pub listing_new : any (λ y. same y z) last ≡ false → (s b : Writer) (count : ℕ) → b ≡ written s (line z) → Listing line same last (z ∷ []) next s count b (count + 1)
-    unfolding runs_after last_of flat_map
-    listing_new h s b count x =
-        let f : runs_after same last (z ∷ []) ≡ z ∷ [] = ap (λ (t : Bool). cond t [] (z ∷ [])) h in
-        record {
-          text = of_same s (sym (ap (flat_map line) f ∙ append-nil (line z))) x;
-          told = omega (arith, ap length f);
-          is = e;
-        }
+  pub listing_new : ((z : List Named) → StandsFor b w last z → any (λ y. same_named y (named x r)) z ≡ false) → (v u : Writer) (count : ℕ) → u ≡ written v (named_line before after (named x r)) → Listing before after b w (named x r ∷ []) v count last u (count + 1) (Some next)
+  unfolding runs_after last_of flat_map
+  listing_new h v u count t =
+      let f : (z : List Named) → StandsFor b w last z → runs_after same_named z (named x r ∷ []) ≡ named x r ∷ [] = λ z g. ap (λ (t : Bool). cond t [] (named x r ∷ [])) (h z g) in
+      record {
+        text = λ z g. of_same v (sym (ap (flat_map (named_line before after)) (f z g) ∙ append-nil (named_line before after (named x r)))) t;
+        told = λ z g. omega (arith, ap length (f z g));
+        is = λ z g. candidate e;
+      }
 
 -- ---- what each element gives
 
@@ -132,13 +170,23 @@ none_judged l e = sym (ap (λ (u : Bool). judged_only u l) e)
 
 -- ---- the candidate that was told last
 
-pub last-none : (f n : ℕ) → LastIn None f n
-last-none f n c e = absurd (none-some c e)
+-- What it is, if there is one.
+pub record Found (b : List ℕ) (w : Program) (c : Candidate) (z : List Named) : Type 0 where
+  pub function : Function
+  pub terms : Terms
+  pub stands : Stands b w c function terms
+  pub is : z ≡ named function terms ∷ []
 
-pub last_here : (f i n : ℕ) → i < n → LastIn (Some (record { function = f; item = i })) f n
-last_here f i n h c e =
-    let z : Candidate = record { function = f; item = i } in
-    subst (λ (k : Candidate). (k.function ≤ f) × (k.item < n)) (same_Some z c e) (omega arith, h)
+pub found : {b : List ℕ} {w : Program} {last : Option Candidate} {z : List Named} → StandsFor b w last z → (c : Candidate) → last ≡ Some c → Found b w c z
+found nothing c e = absurd (none-some c e)
+found {b} {w} (candidate {c = d} {x} {r} h) c e = record { function = x; terms = r; stands = subst (λ (k : Candidate). Stands b w k x r) (same_Some d c e) h; is = refl }
 
-pub last_later : (last : Option Candidate) (f g n : ℕ) → f ≤ g → LastIn last f n → LastIn last g n
-last_later last f g n h p c e = let q = p c e in (omega (arith, q.0, h), q.1)
+pub repeats_none : {b : List ℕ} {w : Program} {last : Option Candidate} {z : List Named} (y : Named) → StandsFor b w last z → last ≡ None → false ≡ any (λ v. same_named v y) z
+unfolding any
+repeats_none y nothing e = refl
+repeats_none y (candidate {c = d} h) e = absurd (none-some d (sym e))
+
+pub repeats_is : {b : List ℕ} {w : Program} {c : Candidate} {z : List Named} (x : Function) (r : Terms) → (h : Found b w c z) → any (λ v. same_named v (named x r)) z ≡ (eq_bytes h.function.name x.name && eq_bytes (format_terms h.terms) (format_terms r))
+unfolding any same_named
+repeats_is x r h =
+    ap (any (λ v. same_named v (named x r))) h.is ∙ or-false (eq_bytes h.function.name x.name && eq_bytes (format_terms h.terms) (format_terms r))

@@ -1,10 +1,8 @@
 -- The uncovered restrictions, as loops over functions and sites tell them.
-use Rattle.std.specs.Prelude.{Option, None, Some}
-use Rattle.report.specs.declared.listing.Candidate.{Candidate}
 use Prim.Native.Nat.{ℕ, zero, suc, ◌+◌, ◌-◌, ◌<◌, ◌≤◌}
 use native.Mathlib.Omega.{arith}
 use mathlib.Core.Path.{◌≡◌, refl, sym, ap, ap₂, ◌∙◌}
-use mathlib.Core.Bool.{Bool, true, false, ◌&&◌, not, cond, or-false, and-eq-true_iff}
+use mathlib.Core.Bool.{Bool, true, false, ◌&&◌, not, cond, and-eq-true_iff}
 use mathlib.Core.List.{List, [], ◌∷◌, ◌++◌, map, flatten}
 use mathlib.Core.Option.{some}
 use borrow.Author.Tests.{ltb-true, ltb-false, eqb-true}
@@ -13,7 +11,6 @@ use lib.ListN.{get_elem?, take}
 use Rattle.program.specs.Syntax.{Name, Terms, Sentences, empty, sentence, Function, Program}
 use Rattle.program.specs.Encode.{sentence_count}
 use Rattle.program.specs.Sentences.{Sentence, sentence_list, own_sentences}
-use Rattle.patterns.specs.Names.{eq_bytes}
 use Rattle.patterns.specs.Ascii.{ascii}
 use Rattle.patterns.specs.declared.Verdict.{Verdict}
 use Rattle.patterns.specs.Search.{patterns_overlap}
@@ -36,34 +33,19 @@ use Rattle.cleaning.proofs.Owned.{before-next, own_element}
 use Rattle.cleaning.proofs.Walking.{and_none}
 use Rattle.meaning.specs.Report.{uncovered_line}
 use Rattle.report.specs.Leading.{is_leading, leading_from}
-use Rattle.report.specs.Listing.{each_from}
-use Rattle.report.specs.Uncovered.{uncovered_one, uncovered_some, last_uncovered, is_uncovered, uncovered_at}
+use Rattle.report.specs.Listing.{each_from, same_named, named_line}
+use Rattle.report.specs.Uncovered.{uncovered_one, uncovered_named, is_uncovered, uncovered_at}
 use Rattle.report.proofs.Leaders.{leading_restrictions}
 use Rattle.report.proofs.Verdicts.{disjoint_same}
 
--- ---- the last candidate
+-- Its line, and what is a repeat of it.
+pub uncovered-text : (u : UncoveredRestriction) → named_line (32 ∷ 60 ∷ 45 ∷ 32 ∷ []) (10 ∷ []) (uncovered_named u) ≡ uncovered_line u
+unfolding named_line uncovered_line ascii flatten
+uncovered-text u = refl
 
-pub last-is : (w : Program) (f i : ℕ) (x : Function) (y : Held) → get_elem? w.functions f ≡ some x → get_elem? (sites_of w) i ≡ some y → last_uncovered w (Some (record { function = f; item = i })) ≡ uncovered_one x y ∷ []
-unfolding uncovered_some
-last-is w f i x y e g = ap₂ uncovered_some e g
-
--- A candidate is held to the last one.
-module _ (w : Program) (last : Option Candidate) (x : Function) (y : Held) where
-  pub repeats_none : last ≡ None → false ≡ any (λ z. same_uncovered z (uncovered_one x y)) (last_uncovered w last)
-  unfolding any
-  repeats_none h = sym (ap (λ (o : Option Candidate). any (λ z. same_uncovered z (uncovered_one x y)) (last_uncovered w o)) h)
-
-  module _ (c : Candidate) (h : last ≡ Some c) (u : Function) (v : Held) (e : get_elem? w.functions c.function ≡ some u) (k : get_elem? (sites_of w) c.item ≡ some v) where
-    pub repeats_is : any (λ z. same_uncovered z (uncovered_one x y)) (last_uncovered w last) ≡ (eq_bytes u.name x.name && eq_bytes (format_terms v.site.argument) (format_terms y.site.argument))
-    unfolding any same_uncovered uncovered_one
-    repeats_is =
-        ap (λ (o : Option Candidate). any (λ z. same_uncovered z (uncovered_one x y)) (last_uncovered w o)) h
-        ∙ (ap (any (λ z. same_uncovered z (uncovered_one x y))) (last-is w c.function c.item u v e k) ∙ or-false (eq_bytes u.name x.name && eq_bytes (format_terms v.site.argument) (format_terms y.site.argument)))
-
--- Its line.
-pub uncovered-text : (x : Function) (y : Held) → 32 ∷ 32 ∷ (x.name ++ (32 ∷ 60 ∷ 45 ∷ 32 ∷ (format_terms y.site.argument ++ (10 ∷ [])))) ≡ uncovered_line (uncovered_one x y)
-unfolding uncovered_line uncovered_one ascii flatten
-uncovered-text x y = refl
+pub uncovered-repeat : (u v : UncoveredRestriction) → same_named (uncovered_named u) (uncovered_named v) ≡ same_uncovered u v
+unfolding same_named same_uncovered
+uncovered-repeat u v = refl
 
 -- ---- whether a restriction is covered
 
@@ -223,7 +205,7 @@ module _ (keep : ℕ → Bool) (sites : List Held) where
     one r = record { function = x.name; input = format_terms r }
 
     by_leading : (rest : List Held) (i : ℕ) → map one (select test (leading_from keep x.name sites i rest)) ≡ each_from (uncovered_at keep sites x k) i rest
-    unfolding leading_from select each_from uncovered_at uncovered_one
+    unfolding leading_from select each_from uncovered_at
     by_leading [] i = refl
     by_leading (y ∷ rest) i = by (is_leading keep x.name sites i y) (test a) refl (leading_from keep x.name sites (suc i) rest) (by_leading rest (suc i))
       where

@@ -1,56 +1,32 @@
 -- The undecided sentences, as loops over functions and sentences tell them.
-use Rattle.std.specs.Prelude.{Option, None, Some}
-use Rattle.report.specs.declared.listing.Candidate.{Candidate}
 use Prim.Native.Nat.{ℕ, suc, ◌+◌}
 use native.Mathlib.Omega.{arith}
 use mathlib.Core.Path.{◌≡◌, refl, sym, ap, ap₂, ◌∙◌}
-use mathlib.Core.Bool.{Bool, true, false, ◌&&◌, not, cond, or-false}
-use mathlib.Core.List.{List, [], ◌∷◌, ◌++◌, map, flatten, append_assoc}
-use mathlib.Core.Option.{some}
-use lib.ListN.{get_elem?}
-use Rattle.program.specs.Syntax.{Sentences, empty, sentence, Function, Program}
+use mathlib.Core.Bool.{Bool, true, false, ◌&&◌, not, cond}
+use mathlib.Core.List.{List, [], ◌∷◌, ◌++◌, map, flatten}
+use Rattle.program.specs.Syntax.{Sentences, empty, sentence, Function}
 use Rattle.program.specs.Encode.{sentence_count}
-use Rattle.program.specs.Sentences.{Sentence, sentence_list, own_sentences}
-use Rattle.patterns.specs.Names.{eq_bytes}
+use Rattle.program.specs.Sentences.{Sentence, sentence_list}
 use Rattle.patterns.specs.Ascii.{ascii}
 use Rattle.meaning.specs.Lists.{any, select}
 use Rattle.told.specs.Numbered.{Held, sentences_before}
 use Rattle.told.specs.Asked.{is_judged}
 use Rattle.meaning.specs.CleanReport.{UndecidedSentence, same_undecided}
 use Rattle.told.specs.History.{numbered}
-use Rattle.meaning.specs.Text.{Text, format_terms}
 use Rattle.told.specs.ToldReport.{overlaps, undecided_in, judged_only, undecided_told}
 use Rattle.meaning.specs.Report.{undecided_line}
-use Rattle.report.specs.Listing.{each_from}
-use Rattle.report.specs.Sentence.{sentence_text}
+use Rattle.report.specs.Listing.{each_from, same_named, named_line}
 use Rattle.report.specs.Notes.{open_at}
-use Rattle.report.specs.Undecided.{undecided_one, undecided_some, last_undecided, undecided_at}
+use Rattle.report.specs.Undecided.{undecided_one, undecided_named, undecided_at}
 
--- ---- the last candidate
+-- Its line, and what is a repeat of it.
+pub undecided-text : (u : UndecidedSentence) → named_line (32 ∷ 123 ∷ []) (125 ∷ 10 ∷ []) (undecided_named u) ≡ undecided_line u
+unfolding named_line undecided_line ascii flatten
+undecided-text u = refl
 
-pub last-is : (w : Program) (f s : ℕ) (x : Function) (y : Sentence) → get_elem? w.functions f ≡ some x → get_elem? (own_sentences w.functions) s ≡ some y → last_undecided w (Some (record { function = f; item = s })) ≡ undecided_one x y ∷ []
-unfolding undecided_some
-last-is w f s x y e g = ap₂ undecided_some e g
-
--- A candidate is held to the last one.
-module _ (w : Program) (last : Option Candidate) (x : Function) (y : Sentence) where
-  pub repeats_none : last ≡ None → false ≡ any (λ z. same_undecided z (undecided_one x y)) (last_undecided w last)
-  unfolding any
-  repeats_none h = sym (ap (λ (o : Option Candidate). any (λ z. same_undecided z (undecided_one x y)) (last_undecided w o)) h)
-
-  module _ (c : Candidate) (h : last ≡ Some c) (u : Function) (v : Sentence) (e : get_elem? w.functions c.function ≡ some u) (k : get_elem? (own_sentences w.functions) c.item ≡ some v) where
-    pub repeats_is : any (λ z. same_undecided z (undecided_one x y)) (last_undecided w last) ≡ (eq_bytes u.name x.name && eq_bytes (format_terms v.pattern) (format_terms y.pattern))
-    unfolding any same_undecided undecided_one
-    repeats_is =
-        ap (λ (o : Option Candidate). any (λ z. same_undecided z (undecided_one x y)) (last_undecided w o)) h
-        ∙ (ap (any (λ z. same_undecided z (undecided_one x y))) (last-is w c.function c.item u v e k) ∙ or-false (eq_bytes u.name x.name && eq_bytes (format_terms v.pattern) (format_terms y.pattern)))
-
--- Its line.
-pub undecided-text : (x : Function) (y : Sentence) → sentence_text x.name (format_terms y.pattern) ++ (10 ∷ []) ≡ undecided_line (undecided_one x y)
-unfolding sentence_text undecided_line undecided_one ascii flatten
-undecided-text x y =
-    let p = format_terms y.pattern in
-    ap (λ (l : Text). 32 ∷ 32 ∷ l) (append_assoc x.name (32 ∷ 123 ∷ (p ++ (125 ∷ []))) (10 ∷ []) ∙ ap (λ (l : Text). x.name ++ (32 ∷ 123 ∷ l)) (append_assoc p (125 ∷ []) (10 ∷ [])))
+pub undecided-repeat : (u v : UndecidedSentence) → same_named (undecided_named u) (undecided_named v) ≡ same_undecided u v
+unfolding same_named same_undecided
+undecided-repeat u v = refl
 
 -- ---- the candidates of a sentence, of a function, of functions
 
@@ -84,7 +60,7 @@ module _ (keep : ℕ → Bool) (sites : List Held) where
         by false u e n g = g
 
     pub undecided_each : (i : ℕ) → each_from (undecided_at keep sites x) i (sentence_list x.sentences) ≡ undecided_in keep sites i x
-    unfolding undecided_in undecided_one
+    unfolding undecided_in
     undecided_each i = sym (by_number i x.sentences)
 
   abbrev pub of_function : (ℕ → ℕ) → ℕ → Function → List UndecidedSentence

@@ -1,13 +1,11 @@
 // The uncovered restrictions: those that are Disjoint from every sentence of their function.
 ghost use Rattle.std.specs.Prelude.{◌≡◌, true, false, ◌&&◌, not, ℕ, ◌+◌, ◌*◌, ◌<◌, ◌≤◌, eqb, length, get_or};
-ghost use mathlib.Core.List.{List, [], ◌∷◌, flat_map};
+ghost use mathlib.Core.List.{List, [], flat_map};
 ghost use Rattle.std.proofs.Math.Option.{some};
 ghost use Rattle.std.proofs.Math.ListN.{get_elem?};
 ghost use Rattle.program.specs.Syntax.{Function, Program};
 ghost use Rattle.program.specs.Sentences.{Sentence};
-ghost use Rattle.patterns.specs.Names.{eq_bytes};
 ghost use Rattle.patterns.specs.Search.{patterns_overlap};
-ghost use Rattle.meaning.specs.Lists.{any};
 ghost use Rattle.told.specs.Numbered.{Held, sentences_before, sites_of};
 ghost use Rattle.told.specs.Calls.{is_listed};
 ghost use Rattle.told.specs.Asked.{is_judged};
@@ -17,24 +15,21 @@ ghost use Rattle.told.specs.History.{is_there, after_all};
 ghost use Rattle.index.specs.Layout.{witnesses, room, Reaches};
 ghost use Rattle.cleaning.specs.Indexed.{SomeBody, fell_of};
 ghost use Rattle.cleaning.specs.Room.{Used};
-ghost use Rattle.meaning.specs.Text.{format_terms};
 ghost use Rattle.cleaning.specs.Walks.{Owns};
 ghost use Rattle.told.specs.ToldReport.{uncovered_in, judged_only, uncovered_told, runs_after};
 ghost use Rattle.text.specs.Fill.{limit};
 ghost use Rattle.text.specs.Written.{written};
 ghost use Rattle.meaning.specs.Report.{uncovered_line};
 ghost use Rattle.report.specs.Emitting.{Readable, SomeReadable};
-ghost use Rattle.report.specs.Entries.{Reads, SomeReads};
 ghost use Rattle.report.specs.Leading.{SomeSite};
-ghost use Rattle.report.specs.Listing.{LastIn};
-ghost use Rattle.report.specs.Uncovered.{uncovered_one, last_uncovered, is_uncovered, uncovered_at, LastPlain, Uncovered};
+ghost use Rattle.report.specs.Listing.{SomeStands};
+ghost use Rattle.report.specs.Uncovered.{is_uncovered, uncovered_at, Uncovered};
 
 use crate::AFTER_ALL;
 use crate::entries::Entries;
 use crate::listing::{Candidate, Listed};
 use cleaning::verdict::verdict_at;
 use cleaning::walks::{is_judged, is_there};
-use compare::same_text;
 use index::Plan;
 use index::table::{Kind, head_site, next_site};
 use patterns::Verdict;
@@ -112,74 +107,6 @@ fn is_covered(b: &[u8], work: &mut [u32], plan: Plan, f: usize, i: usize) -> boo
     Entries { b, work, plan }.is_witnessed(f, i) || any_covers(b, work, plan, f, i)
 }
 
-impl<'b, 'w> Entries<'b, 'w> {
-    // The line of the argument of the plain site i, a restriction of the f-th function.
-    fn put_line(&self, f: usize, i: usize, out: &mut Writer<'_>)
-        requires { SomeSite self.now.b.now self.now.work.now self.now.plan i × (f < self.now.plan.functions) × (out.old.filled + 80000 ≤ limit) }
-        ensures written { (w : Program) (x : Function) (y : Held) → Reads self.now w → get_elem? w.functions f ≡ some x → get_elem? (sites_of w) i ≡ some y → is_listed true x.name y ≡ true → out.new ≡ written out.old (uncovered_line (uncovered_one x y)) }
-        ensures short { (out.old.filled < out.new.filled) × (out.new.filled ≤ out.old.filled + 80000) }
-    {
-        out.put_bytes(b"  ");
-        self.put_name(f, out);
-        out.put_bytes(b" <- ");
-        let q = self.argument_of(i);
-        out.format_terms(&self.b[q..]);
-        out.put_byte(b'\n');
-    }
-
-    // Whether the arguments of the plain sites i and j have the same text.
-    fn same_argument(&self, i: usize, j: usize) -> bool
-        requires { SomeSite self.now.b.now self.now.work.now self.now.plan i × SomeSite self.now.b.now self.now.work.now self.now.plan j }
-        ensures { (w : Program) (f g : ℕ) (x u : Function) (y v : Held) → Reads self.now w → get_elem? w.functions f ≡ some x → get_elem? (sites_of w) i ≡ some y → is_listed true x.name y ≡ true → get_elem? w.functions g ≡ some u → get_elem? (sites_of w) j ≡ some v → is_listed true u.name v ≡ true → result ≡ eq_bytes (format_terms y.site.argument) (format_terms v.site.argument) }
-    {
-        let p = self.argument_of(i);
-        let q = self.argument_of(j);
-        same_text(&self.b[p..], &self.b[q..])
-    }
-
-    // Whether the candidate, the plain site i of the f-th function, repeats the last one.
-    fn repeats_argument(&self, f: usize, i: usize, listed: Listed) -> bool
-        requires { SomeSite self.now.b.now self.now.work.now self.now.plan i × (f < self.now.plan.functions) × LastIn listed.last f self.now.plan.sites × ((w : Program) → Reads self.now w → LastPlain w listed.last) }
-        ensures { (w : Program) (x : Function) (y : Held) → Reads self.now w → get_elem? w.functions f ≡ some x → get_elem? (sites_of w) i ≡ some y → is_listed true x.name y ≡ true → result ≡ any (λ z. same_uncovered z (uncovered_one x y)) (last_uncovered w listed.last) }
-    {
-        match listed.last {
-            None => false,
-            Some(last) => {
-                self.same_function(last.function, f) && self.same_argument(last.item, i)
-            }
-        }
-    }
-
-    // Tells the candidate: a line, unless it repeats the last one.
-    fn put_uncovered_argument(
-        &self,
-        f: usize,
-        i: usize,
-        out: &mut Writer<'_>,
-        listed: Listed,
-    ) -> Listed
-        requires { SomeSite self.now.b.now self.now.work.now self.now.plan i × (f < self.now.plan.functions) × LastIn listed.last f self.now.plan.sites × ((w : Program) → Reads self.now w → LastPlain w listed.last) × (out.old.filled + 80000 ≤ limit) × (listed.count ≤ out.old.filled) }
-        ensures told { (w : Program) (x : Function) (y : Held) → Reads self.now w → get_elem? w.functions f ≡ some x → get_elem? (sites_of w) i ≡ some y → is_listed true x.name y ≡ true → Uncovered w (uncovered_one x y ∷ []) out.old listed.count listed.last out.new result.count result.last }
-        ensures short { (out.new.filled ≤ out.old.filled + 80000) × (result.count ≤ out.new.filled) × LastIn result.last f self.now.plan.sites }
-    {
-        let last = Some(Candidate {
-            function: f,
-            item: i,
-        });
-        if self.repeats_argument(f, i, listed) {
-            return Listed {
-                count: listed.count,
-                last,
-            };
-        }
-        self.put_line(f, i, out);
-        Listed {
-            count: listed.count + 1,
-            last,
-        }
-    }
-}
-
 // Tells the plain site i of the f-th function, if it leads and is uncovered.
 fn put_if_uncovered(
     b: &[u8],
@@ -190,16 +117,21 @@ fn put_if_uncovered(
     out: &mut Writer<'_>,
     listed: Listed,
 ) -> Listed
-    requires { SomeSite b.now work.old plan i × (f < plan.functions) × LastIn listed.last f plan.sites × ((w : Program) → Readable b.now w work.old plan → LastPlain w listed.last) × (out.old.filled + 80000 ≤ limit) × (listed.count ≤ out.old.filled) }
-    ensures told { (w : Program) (x : Function) (y : Held) → Readable b.now w work.old plan → get_elem? w.functions f ≡ some x → get_elem? (sites_of w) i ≡ some y → is_listed true x.name y ≡ true → Uncovered w (uncovered_at (is_there (fell_of plan work.old) after_all) (sites_of w) x (sentences_before f w.functions) i y) out.old listed.count listed.last out.new result.count result.last }
-    ensures short { (out.new.filled ≤ out.old.filled + 80000) × (result.count ≤ out.new.filled) × LastIn result.last f plan.sites }
+    requires { SomeSite b.now work.old plan i × (f < plan.functions) × ((w : Program) → Readable b.now w work.old plan → SomeStands b.now w listed.last) × (out.old.filled + 80000 ≤ limit) × (listed.count ≤ out.old.filled) }
+    ensures told { (w : Program) (x : Function) (y : Held) → Readable b.now w work.old plan → get_elem? w.functions f ≡ some x → get_elem? (sites_of w) i ≡ some y → is_listed true x.name y ≡ true → Uncovered b.now w (uncovered_at (is_there (fell_of plan work.old) after_all) (sites_of w) x (sentences_before f w.functions) i y) out.old listed.count listed.last out.new result.count result.last }
+    ensures short { (out.new.filled ≤ out.old.filled + 80000) × (result.count ≤ out.new.filled) }
     ensures keeps { Used plan work.old work.new }
 {
     let leading = Entries { b, work, plan }.leads(i, AFTER_ALL);
     if !leading || is_covered(b, work, plan, f, i) {
         return listed;
     }
-    Entries { b, work, plan }.put_uncovered_argument(f, i, out, listed)
+    let entries = Entries { b, work, plan };
+    let next = Candidate {
+        function: f,
+        terms: entries.argument_of(i),
+    };
+    entries.put_candidate(next, b" <- ", b"\n", out, listed)
 }
 
 // Tells the uncovered restrictions of the f-th function.
@@ -211,9 +143,9 @@ fn put_uncovered_in(
     out: &mut Writer<'_>,
     listed: Listed,
 ) -> Listed
-    requires { SomeReadable b.now work.old plan × (f < plan.functions) × LastIn listed.last f plan.sites × ((w : Program) → Readable b.now w work.old plan → LastPlain w listed.last) × (out.old.filled + 8192 * 80000 ≤ limit) × (listed.count ≤ out.old.filled) }
-    ensures told { (w : Program) (x : Function) → Readable b.now w work.old plan → get_elem? w.functions f ≡ some x → Uncovered w (uncovered_in (is_there (fell_of plan work.old) after_all) (sites_of w) (sentences_before f w.functions) x) out.old listed.count listed.last out.new result.count result.last }
-    ensures short { (out.new.filled ≤ out.old.filled + 8192 * 80000) × (result.count ≤ out.new.filled) × LastIn result.last f plan.sites }
+    requires { SomeReadable b.now work.old plan × (f < plan.functions) × ((w : Program) → Readable b.now w work.old plan → SomeStands b.now w listed.last) × (out.old.filled + 8192 * 80000 ≤ limit) × (listed.count ≤ out.old.filled) }
+    ensures told { (w : Program) (x : Function) → Readable b.now w work.old plan → get_elem? w.functions f ≡ some x → Uncovered b.now w (uncovered_in (is_there (fell_of plan work.old) after_all) (sites_of w) (sentences_before f w.functions) x) out.old listed.count listed.last out.new result.count result.last }
+    ensures short { (out.new.filled ≤ out.old.filled + 8192 * 80000) × (result.count ≤ out.new.filled) }
     ensures keeps { Used plan work.old work.new }
 {
     let links = plan.links();
@@ -235,9 +167,9 @@ fn put_if_judged(
     out: &mut Writer<'_>,
     listed: Listed,
 ) -> Listed
-    requires { SomeReadable b.now work.old plan × (f < plan.functions) × LastIn listed.last f plan.sites × ((w : Program) → Readable b.now w work.old plan → LastPlain w listed.last) × (out.old.filled + 8192 * 80000 ≤ limit) × (listed.count ≤ out.old.filled) }
-    ensures told { (w : Program) (x : Function) → Readable b.now w work.old plan → get_elem? w.functions f ≡ some x → Uncovered w (judged_only (is_judged (is_there (fell_of plan work.old) after_all) x.name (sites_of w)) (uncovered_in (is_there (fell_of plan work.old) after_all) (sites_of w) (sentences_before f w.functions) x)) out.old listed.count listed.last out.new result.count result.last }
-    ensures short { (out.new.filled ≤ out.old.filled + 8192 * 80000) × (result.count ≤ out.new.filled) × LastIn result.last f plan.sites }
+    requires { SomeReadable b.now work.old plan × (f < plan.functions) × ((w : Program) → Readable b.now w work.old plan → SomeStands b.now w listed.last) × (out.old.filled + 8192 * 80000 ≤ limit) × (listed.count ≤ out.old.filled) }
+    ensures told { (w : Program) (x : Function) → Readable b.now w work.old plan → get_elem? w.functions f ≡ some x → Uncovered b.now w (judged_only (is_judged (is_there (fell_of plan work.old) after_all) x.name (sites_of w)) (uncovered_in (is_there (fell_of plan work.old) after_all) (sites_of w) (sentences_before f w.functions) x)) out.old listed.count listed.last out.new result.count result.last }
+    ensures short { (out.new.filled ≤ out.old.filled + 8192 * 80000) × (result.count ≤ out.new.filled) }
     ensures keeps { Used plan work.old work.new }
 {
     if !is_judged(work, plan, f, AFTER_ALL) {

@@ -1,5 +1,4 @@
 -- `report::uncovered::put_uncovered_in` meets its contract. Assumes nothing.
-use Rattle.report.specs.Listing.{LastIn}
 use Prim.Native.Nat.{◌-◌, ◌≤◌}
 use mathlib.Core.Path.{◌≡◌}
 use mathlib.Core.Option.{some}
@@ -17,8 +16,8 @@ use Rattle.report.proofs.uncovered.put_uncovered_in.Given as goal
 abbrev pub invariant-loop-i : goal.invariant-loop-i
 invariant-loop-i l =
     ((w : Program) (x : Function) → Readable l.b w l.initial.work l.plan → get_elem? w.functions l.f ≡ some x
-    → OnSites (is_there (fell_of l.plan l.initial.work) after_all) w x (sentences_before l.f w.functions) l.initial.out l.initial.told.count l.initial.told.last l.i l.out l.told.count l.told.last)
-    × (l.told.count ≤ l.out.filled) × LastIn l.told.last l.f l.plan.sites × Used l.plan l.initial.work l.work
+    → OnSites (is_there (fell_of l.plan l.initial.work) after_all) l.b w x (sentences_before l.f w.functions) l.initial.out l.initial.told.count l.initial.told.last l.i l.out l.told.count l.told.last)
+    × (l.told.count ≤ l.out.filled) × Used l.plan l.initial.work l.work
 
 abbrev pub decreases-loop-i : goal.decreases-loop-i
 decreases-loop-i l = l.plan.sites - l.i

@@ -1,5 +1,4 @@
 -- `report::entries::Entries::put_undecided` meets its contract. Assumes nothing.
-use Rattle.report.specs.Listing.{LastIn}
 use Prim.Native.Nat.{◌≤◌}
 use Rattle.program.specs.Syntax.{Program}
 use Rattle.told.specs.History.{is_there, after_all}
@@ -11,5 +10,5 @@ use Rattle.report.proofs.entries.Entries.put_undecided.Given as goal
 -- The functions before f are told.
 abbrev pub invariant-loop-f : goal.invariant-loop-f
 invariant-loop-f l =
-    ((w : Program) → Readable l.self.b.now w l.self.work.now l.self.plan → OverFunctions (is_there (fell_of l.self.plan l.self.work.now) after_all) w l.initial.out l.f l.out l.told.count l.told.last)
-    × (l.told.count ≤ l.out.filled) × LastIn l.told.last l.f l.self.plan.sentences
+    ((w : Program) → Readable l.self.b.now w l.self.work.now l.self.plan → OverFunctions (is_there (fell_of l.self.plan l.self.work.now) after_all) l.self.b.now w l.initial.out l.f l.out l.told.count l.told.last)
+    × (l.told.count ≤ l.out.filled)

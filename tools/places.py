@@ -41,13 +41,27 @@ def split(text, mark):
     """The parts between marks that stand outside of brackets."""
     parts, depth, part = [], 0, ""
     for c in text:
-        depth += {"(": 1, "[": 1, "{": 1, "<": 1, ")": -1, "]": -1, "}": -1, ">": -1}.get(c, 0)
+        depth += {"(": 1, "[": 1, "{": 1, ")": -1, "]": -1, "}": -1}.get(c, 0)
+        if mark == ",":
+            depth += {"<": 1, ">": -1}.get(c, 0)
         if c == mark and depth <= 0:
             parts.append(part)
             part = ""
         else:
             part += c
     return parts + [part]
+
+
+def facts_of(clause):
+    """The facts of a clause, without what tells when they hold; a group of facts in brackets is taken apart."""
+    out = []
+    for part in split(clause, "×"):
+        p = re.sub(r"\.(now|old|new|entry)\b", "", part.strip())
+        if p.startswith("(") and p.endswith(")"):
+            out += facts_of(p[1:-1])
+        else:
+            out.append(p)
+    return out
 
 
 def loops(text):
@@ -62,7 +76,7 @@ def loops(text):
         while not lines[j].startswith(m.group(1) + "}"):
             j += 1
         body = "\n".join(lines[i + 1:j])
-        counted = [v for v, _, _ in re.findall(r"\b(\w+) ([+-])= (\d+);", body) if re.search(rf"\b{v}\b", m.group(3))]
+        counted = [v for v, _, _ in re.findall(r"\b(\w+) ([+-])= (\d+)[;,]", body) if re.search(rf"\b{v}\b", m.group(3))]
         out.append((i + 1, line.strip(), counted))
     return out
 
@@ -109,11 +123,8 @@ def main():
                     groups[a].append(f"{f}:{line}: {name}")
             for kind, clause in clauses:
                 if kind == "requires":
-                    for part in split(clause, "×"):
-                        p = re.sub(r"\.(now|old|new|entry)\b", "", part.strip())
-                        while p.startswith("(") and p.endswith(")"):
-                            p = p[1:-1]
-                        facts[p].append(f"{f}:{line}: {name}")
+                    for part in facts_of(clause):
+                        facts[part].append(f"{f}:{line}: {name}")
         for line, head, counted in loops(text):
             add("3 loops in all", f"{f}:{line}: {head}")
             if counted:

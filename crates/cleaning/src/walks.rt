@@ -1,4 +1,5 @@
 // Walks along a function's list of sites: which of them are there, and which a sentence meets.
+// A list of sites goes from entry to entry of the lent memory: no range knows which.
 ghost use Rattle.std.specs.Prelude.{◌≡◌, Bool, true, List, ℕ, ◌+◌, ◌*◌, ◌%◌, ◌<◌, ◌≤◌, length, get_or, drop};
 ghost use Rattle.std.proofs.Math.Option.{some};
 ghost use Rattle.std.proofs.Math.ListN.{get_elem?};

@@ -1,5 +1,6 @@
 // Whether two sequences of terms have the same text, letter by letter on the image's own bytes. An
 // identifier may be spelled as a variable is, so tokens are not compared. A code is a number with a bound, as the writing end has it.
+// Marks stay numbers, as in `image::part`.
 #![tactic(auto)]
 
 ghost use Rattle.std.specs.Prelude.{◌≡◌, true, cond, ◌&&◌, ◌∷◌, ◌+◌, ◌<◌, ◌≤◌, eqb, length, get_or};

@@ -1,4 +1,5 @@
 // Whether two arguments are one configuration, on the image's own bytes.
+// Marks stay numbers, as in `image::part`.
 #![tactic(auto)]
 
 ghost use Rattle.std.specs.Prelude.{◌≡◌, ◌<◌, ◌≤◌, length, get_or};

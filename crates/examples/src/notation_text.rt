@@ -1,5 +1,6 @@
 // Whether a text holds the names and symbols of an image, in order, and no others. A text and the place in it go side by side, as
 // the places of the image do.
+// Marks stay numbers, as in `image::part`.
 ghost use Rattle.std.specs.Prelude.{◌+◌, ◌<◌, ◌≤◌, length, IfSome};
 
 // What a text is in, outside of the names: a comment ends with its line, a word like $ENTRY with a space.

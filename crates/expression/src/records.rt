@@ -1,4 +1,5 @@
 // Records with zero spans.
+// Marks stay numbers, as in `image::part`.
 ghost use Rattle.std.specs.Prelude.{◌≡◌, ◌+◌, ◌≤◌, [], ◌∷◌};
 ghost use Rattle.program.specs.Bytes.{put_span};
 ghost use Rattle.program.specs.Encode.{put_symbol};

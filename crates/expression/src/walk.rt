@@ -1,5 +1,6 @@
 // The walk along the search's first success: heads in turn, and at an `e.` variable the first end that meets the rest. The ends are
 // found once for each pair of sequences and stand in the room; where none was found the search is asked at each end.
+// Marks stay numbers, as in `image::part`.
 ghost use Rattle.std.specs.Prelude.{ℕ, suc, ◌+◌, ◌*◌, ◌<◌, ◌≤◌, ◌≡◌, Bool, None, IfSome, [], length, get_or, drop};
 ghost use Rattle.program.specs.Limits.{Mode};
 ghost use Rattle.image.specs.Parts.{TermsAt};

@@ -1,6 +1,6 @@
 // Parts of an image: how long a record is, where its parts stand, and the way from one record to the next.
 // What stands at a place is a clause (`TermsAt`, `SentenceAt`, `Accepted`, ..), here and above, and no ghost field: it holds what was
-// read, which contracts hand on, and a ghost field holds propositions alone. That a place is no further than the end is of two
+// read, which contracts hand on, and a ghost field holds propositions alone: truncated to one it would not give that. That a place is no further than the end is of two
 // parameters.
 // Marks stay numbers, as the definition of the bytes writes them: the arms are ranges of them, and an enum would be made of a byte only to be matched once.
 ghost use Rattle.std.specs.Prelude.{◌≡◌, ◌∷◌, suc, ◌+◌, ◌-◌, ◌*◌, ◌<◌, ◌≤◌, min, length, get_or, take, drop};
@@ -159,7 +159,8 @@ pub fn sentences_start(s: &[u8]) -> usize
     11 + byte_or(s, 10)
 }
 
-// The sentence after `number` of the functions that stand from `from` to the end of the body b.
+// The sentence after `number` of the functions that stand from `from` to the end of the body b: one walk over the records, of which
+// sentences alone are counted.
 pub fn sentence_at(b: &[u8], from: usize, number: usize) -> Option<usize>
     requires { (from ≤ length b.now) × FunctionsAt (drop from b.now) }
     ensures { (h : FunctionsAt (drop from b.now)) → FoundIn b.now (own_sentences h.functions) number result }

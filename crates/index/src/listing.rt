@@ -1,4 +1,5 @@
 // The places of functions and sentences, found in one pass.
+// Marks stay numbers, as in `image::part`.
 ghost use Rattle.std.specs.Prelude.{◌≡◌, ℕ, ◌+◌, ◌<◌, ◌≤◌, length, get_or, drop};
 ghost use Rattle.program.specs.Sentences.{own_sentences};
 ghost use Rattle.image.specs.Parts.{FunctionsAt};

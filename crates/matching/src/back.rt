@@ -1,4 +1,5 @@
 // Back to a choice: the newest `e.` variable that can take a term more.
+// Marks stay numbers, as in `image::part`.
 ghost use Rattle.std.specs.Prelude.{◌≡◌, List, ℕ, ◌<◌, ◌≤◌, length};
 ghost use Rattle.meaning.specs.Match.{Bindings};
 ghost use Rattle.meaning.proofs.Searching.{Choice};

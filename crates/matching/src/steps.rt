@@ -1,4 +1,5 @@
 // One step of a match: a token of the pattern meets one of the value.
+// Marks stay numbers, as in `image::part`.
 ghost use Rattle.std.specs.Prelude.{◌≡◌, List, ℕ, ◌+◌, ◌≤◌, length, get_or, drop};
 ghost use Rattle.std.proofs.Math.Option.{some};
 ghost use Rattle.program.specs.Syntax.{variable};

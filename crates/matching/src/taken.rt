@@ -1,4 +1,5 @@
 // What a new variable takes first: one symbol, one term, or nothing, and before its sequence's close all there is.
+// Marks stay numbers, as in `image::part`.
 ghost use Rattle.std.specs.Prelude.{◌≡◌, ℕ, ◌+◌, ◌-◌, ◌<◌, ◌≤◌, length};
 ghost use Rattle.std.proofs.Math.Option.{none};
 ghost use Rattle.program.specs.Syntax.{e_kind};

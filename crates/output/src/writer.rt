@@ -1,4 +1,5 @@
 // The cleaned image: the items that are kept, one after another, and the trailer.
+// Marks stay numbers, as in `image::part`.
 ghost use Rattle.std.specs.Prelude.{◌≡◌, cond, ◌++◌, ◌+◌, ◌<◌, ◌≤◌, length, take, drop};
 ghost use Rattle.program.specs.Bytes.{put16, put32};
 ghost use Rattle.program.specs.Encode.{put_functions, own_sentence_count, encode};

@@ -2,6 +2,7 @@
 // little stack; where one is met there is no answer, which is handed up at once. Only what can multiply is counted, the ends
 // of splits and the bracket pairs: between two of them the heads go forward in both patterns, so that a search within a limit
 // compares at most so many heads as the limit times the shorter pattern.
+// Marks stay numbers, as in `image::part`.
 ghost use Rattle.std.specs.Prelude.{◌≡◌, ◌≤◌, length, Option, IsSome};
 ghost use Rattle.program.specs.Limits.{Mode};
 ghost use Rattle.image.specs.Parts.{TermsAt};

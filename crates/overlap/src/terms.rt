@@ -1,4 +1,5 @@
 // Terms of one pattern alone: how many there are.
+// Marks stay numbers, as in `image::part`.
 ghost use Rattle.std.specs.Prelude.{◌≤◌, length};
 ghost use Rattle.program.specs.Limits.{Mode};
 ghost use Rattle.image.specs.Parts.{TermsAt};

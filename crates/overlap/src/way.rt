@@ -2,6 +2,7 @@
 // what follows the `e.` variable, the end in turn and its fuel. It looks for a success and nothing else: where a bracket pair is
 // Unknown, fuel runs out or the room is too short it finds no way. It makes the search's entries, 4,096 at most, and asks one
 // bracket pair at each at most.
+// Marks stay numbers, as in `image::part`.
 ghost use Rattle.std.specs.Prelude.{◌≡◌, [], ℕ, ◌+◌, ◌*◌, ◌<◌, ◌≤◌, length, get_or, drop};
 ghost use Rattle.program.specs.Limits.{Mode};
 ghost use Rattle.image.specs.Parts.{TermsAt};

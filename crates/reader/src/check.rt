@@ -1,5 +1,6 @@
 // Checks a whole image in one pass: what is still to come lies on a small stack, and the first refusal met is the answer.
 // The stack is an array with the number of its frames beside it: as a struct of both, with methods, it costs up to half an instruction a byte more.
+// Marks stay numbers, as in `image::part`.
 ghost use Rattle.std.specs.Prelude.{◌≡◌, ◌+◌, ◌-◌, ◌<◌, ◌≤◌, length};
 ghost use Rattle.program.specs.Automaton.{run, Stack};
 ghost use Rattle.program.specs.Decode.{decode, decode_sized};

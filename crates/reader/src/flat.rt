@@ -1,4 +1,5 @@
 // Passing over flat terms, closes and declared names, which push nothing and count for nothing.
+// Marks stay numbers, as in `image::part`.
 ghost use Rattle.std.specs.Prelude.{◌≡◌, ℕ, ◌+◌, ◌-◌, ◌<◌, ◌≤◌, length, true};
 ghost use Rattle.program.specs.Limits.{Mode};
 ghost use Rattle.program.specs.Automaton.{Stack};

@@ -1,4 +1,5 @@
 // Which sentences are undecided: asked once, and noted above the round in a sentence's entry.
+// A list of sites goes from entry to entry of the lent memory: no range knows which.
 ghost use Rattle.std.specs.Prelude.{◌≡◌, true, ℕ, suc, ◌<◌, ◌≤◌, length, drop};
 ghost use Rattle.std.proofs.Math.Option.{some};
 ghost use Rattle.std.proofs.Math.ListN.{get_elem?};

@@ -1,4 +1,5 @@
 // The restrictions of a function when a round begins, one after another.
+// A list of sites goes from entry to entry of the lent memory: no range knows which.
 ghost use Rattle.std.specs.Prelude.{◌≡◌, true, ℕ, ◌+◌, ◌*◌, ◌<◌, ◌≤◌, length};
 ghost use mathlib.Core.List.{List, flat_map};
 ghost use Rattle.std.proofs.Math.Option.{some};

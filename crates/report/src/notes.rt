@@ -1,5 +1,6 @@
 // Notes of the sites, once the rounds are done: as long as one that they repeat is there, so that a site which leads is
 // told by its own entries. A list is walked once for each function that it belongs to.
+// A list of sites goes from entry to entry of the lent memory: no range knows which.
 ghost use Rattle.std.specs.Prelude.{◌≡◌, ◌||◌, List, ℕ, ◌+◌, ◌<◌, ◌≤◌, length, get_or};
 ghost use Rattle.std.proofs.Math.Option.{some};
 ghost use Rattle.std.proofs.Math.ListN.{get_elem?};

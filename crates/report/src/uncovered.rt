@@ -1,4 +1,5 @@
 // The uncovered restrictions: those that are Disjoint from every sentence of their function.
+// A list of sites goes from entry to entry of the lent memory: no range knows which.
 ghost use Rattle.std.specs.Prelude.{◌≡◌, true, false, ◌&&◌, not, ℕ, ◌+◌, ◌*◌, ◌<◌, ◌≤◌, eqb, length, get_or};
 ghost use mathlib.Core.List.{List, [], flat_map};
 ghost use Rattle.std.proofs.Math.Option.{some};

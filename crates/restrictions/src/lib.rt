@@ -1,5 +1,6 @@
 // Call sites and the restrictions that they make, on an image's own bytes.
 // That a body has at most 32,768 bytes stays a clause: in a struct it would be opened at each byte.
+// Marks stay numbers, as in `image::part`.
 #![tactic(auto)]
 
 ghost use Rattle.std.specs.Prelude.{◌≡◌, List, ℕ, ◌+◌, ◌<◌, ◌≤◌, length, drop, Some, None};

@@ -2,6 +2,7 @@
 // the first that of the tail one term longer. Two brackets are a table of their own, behind the row.
 // The room goes on whole, with the place from which it is free: the lists that a table reads stand below the row that it writes, and
 // parts lent on would be split in two at each level of brackets.
+// Marks stay numbers, as in `image::part`.
 ghost use Rattle.std.specs.Prelude.{◌≡◌, ◌+◌, ◌*◌, ◌<◌, ◌≤◌, length, get_or, set, IfSome};
 ghost use Rattle.program.specs.Syntax.{Terms};
 ghost use Rattle.patterns.specs.Search.{View, view, size};

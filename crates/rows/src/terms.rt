@@ -1,4 +1,5 @@
 // Terms of a body, by their places.
+// Marks stay numbers, as in `image::part`.
 ghost use Rattle.std.specs.Prelude.{◌≡◌, ◌+◌, ◌≤◌, length, get_or, IfSome};
 ghost use Rattle.program.specs.Limits.{Mode};
 ghost use Rattle.image.specs.Parts.{TermsAt};

@@ -1,4 +1,5 @@
 // Terms as text, from the bytes of a part of an image.
+// Marks stay numbers, as in `image::part`.
 ghost use Rattle.std.specs.Prelude.{◌≡◌, [], ◌∷◌, ◌++◌, ◌+◌, ◌<◌, ◌≤◌, length, get_or};
 ghost use Rattle.program.specs.Syntax.{character};
 ghost use Rattle.program.specs.Limits.{Mode};

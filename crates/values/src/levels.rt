@@ -1,5 +1,6 @@
 // Expressions at the start of a slice, up to its end or to a close that none of their brackets opened.
 // The walks go from token to token, each as long as its bytes say, which no chain of the library's is plainer for.
+// Marks stay numbers, as in `image::part`.
 ghost use Rattle.std.specs.Prelude.{◌≡◌, [], ◌+◌, ◌≤◌, length};
 ghost use Rattle.patterns.specs.Expression.{void};
 ghost use Rattle.patterns.specs.Marks.{put_expression};

@@ -1,4 +1,5 @@
 // Whether bytes can be read as an input or as answers: tokens one by one, and brackets by counting them, so that depth is free.
+// Marks stay numbers, as in `image::part`.
 ghost use Rattle.std.specs.Prelude.{◌≡◌, Bool, ◌+◌, ◌<◌, MatchOption};
 ghost use Rattle.meaning.specs.Inputs.{input_of, answers_of};
 ghost use Rattle.values.specs.Values.{is_read};

@@ -1,4 +1,5 @@
 // Tokens: a symbol, the opening of a bracket, a close.
+// Marks stay numbers, as in `image::part`.
 ghost use Rattle.std.specs.Prelude.{◌≡◌, Bool, true, [], ◌+◌, ◌≤◌, eqb, length, get_or, MatchOption};
 ghost use Rattle.std.proofs.Math.Option.{none};
 ghost use Rattle.patterns.specs.Marks.{zero_span};

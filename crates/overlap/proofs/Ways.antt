@@ -156,6 +156,10 @@ trail-last {b = b} {m = m} {from = from} {fuel = fuel} {p = p} {q = q} {g = g} {
 
 -- ---- heads in turn
 
+-- The place behind the first term of a pattern is in the body.
+pub term-within : (b : List ℕ) (i : ℕ) (p : TermsAt Mode.pattern (drop i b)) → (get_or (part b i) 0 0 ≡ 15 → ⊥) → (n : ℕ) → Passes (part b i) n (put_terms (tail p.terms) p.rest) → i + n ≤ length b
+term-within b i p m n d = (next_fits b i (at_part b i p) m (omega (arith, inside b i p)) n d).0
+
 -- The search at i and j answers as the whole, and a way from there is a way of the whole.
 pub record Onward (b : List ℕ) (fuel p q f i j : ℕ) : Type 0 where
   pub first : TermsAt Mode.pattern (drop i b)

@@ -1,8 +1,11 @@
-use Prim.Native.Nat.{◌-◌, ◌<◌, ◌≤◌}
+use Prim.Native.Nat.{ℕ, ◌-◌, ◌<◌}
 use native.Mathlib.Omega.{arith}
-use mathlib.Core.Path.{sym, ap, ◌∙◌, subst, refl}
-use lib.ListN.{length}
+use mathlib.Core.Path.{◌≡◌, sym, ap, ◌∙◌, subst, refl}
+use mathlib.Core.List.{List}
+use lib.ListN.{length, get_or}
+use Rattle.program.specs.Encode.{put_terms}
 use Rattle.program.specs.Limits.{Mode}
+use Rattle.image.specs.Parts.{Passes, TermsAt, tail}
 use Rattle.image.proofs.Readings.{result-at}
 use Rattle.patterns.specs.declared.Verdict.{Verdict}
 use Rattle.patterns.specs.Search.{found}
@@ -19,6 +22,10 @@ use Rattle.patterns.proofs.Verdicts.{disjoint≢overlap}
 use Rattle.overlap.proofs.search.+absorbing_split_overlap_of_terms_sequence.Goals as goal
 use Rattle.overlap.proofs.search.+absorbing_split_overlap_of_terms_sequence.Goals.{overlap_of_terms-else-left-eq7-via-then-left-eq7+else-right-eq7, overlap_of_terms-else-left-eq7-via-else-left-eq7}
 
+-- What is behind the first term is shorter.
+shorter : {s : List ℕ} (p : TermsAt Mode.pattern s) → (get_or s 0 0 ≡ 15 → ⊥) → (n : ℕ) → Passes s n (put_terms (tail p.terms) p.rest) → length (part s n) < length s
+shorter {s} p m n h = omega (arith, h.fits, term_long p m n h, part_length s n)
+
 pub absorbing_split-loop-inner-init : goal.absorbing_split-loop-inner-init
 absorbing_split-loop-inner-init t c = (omega arith, λ u v. splitting_first c.args.fuel u.terms v, refl)
 
@@ -28,8 +35,7 @@ absorbing_split-returns-in_err-inner-clause-ends t c = λ a. not_stopped (c.insi
 
 pub absorbing_split-sequence-requires : goal.absorbing_split-sequence-requires
 absorbing_split-sequence-requires t c =
-    let splitting : Splitting c.args.fuel c.loop-inner.x.now c.loop-inner.f c.loop-inner.verdict c.requires.0.terms c.requires.1.terms = c.loop-inner.invariant.1 c.requires.0 c.requires.1 in
-    (omega (arith, c.decreases, c.loop-inner.invariant.0), (c.requires.0, splitting.there))
+    (omega (arith, c.decreases, c.loop-inner.invariant.0), (c.requires.0, (c.loop-inner.invariant.1 c.requires.0 c.requires.1).there))
 
 -- An end was not done.
 pub absorbing_split-returns-in_err-t-clause-ends : goal.absorbing_split-returns-in_err-t-clause-ends
@@ -45,8 +51,7 @@ absorbing_split-returns-then-eq t c = record {
 
 pub absorbing_split-bounds-x-0 : goal.absorbing_split-bounds-x-0
 absorbing_split-bounds-x-0 t c =
-    let splitting : Splitting c.args.fuel c.loop-inner.x.now c.loop-inner.f c.loop-inner.verdict c.requires.0.terms c.requires.1.terms = c.loop-inner.invariant.1 c.requires.0 c.requires.1 in
-    pattern-room splitting.there
+    pattern-room (c.loop-inner.invariant.1 c.requires.0 c.requires.1).there
 
 pub absorbing_split-returns-then-x-eq15 : goal.absorbing_split-returns-then-x-eq15
 absorbing_split-returns-then-x-eq15 t c = record {
@@ -60,39 +65,23 @@ absorbing_split-returns-then-x-eq15 t c = record {
 
 pub absorbing_split-term_len-k-requires : goal.absorbing_split-term_len-k-requires
 absorbing_split-term_len-k-requires t c =
-    let splitting : Splitting c.args.fuel c.loop-inner.x.now c.loop-inner.f c.loop-inner.verdict c.requires.0.terms c.requires.1.terms = c.loop-inner.invariant.1 c.requires.0 c.requires.1 in
-    result-at splitting.there
+    result-at (c.loop-inner.invariant.1 c.requires.0 c.requires.1).there
 
 pub absorbing_split-slice_bounds-x-count : goal.absorbing_split-slice_bounds-x-count
 absorbing_split-slice_bounds-x-count t c =
-    let splitting : Splitting c.args.fuel c.loop-inner.x.now c.loop-inner.f c.loop-inner.verdict c.requires.0.terms c.requires.1.terms = c.loop-inner.invariant.1 c.requires.0 c.requires.1 in
-    let both : (c.term_len-k.result ≤ length c.loop-inner.x.now) × (0 < c.term_len-k.result) = let p = splitting.there in
-    let k = c.term_len-k.ensures Mode.pattern p in
-    (k.fits, term_long p c.if-x-eq15.false c.term_len-k.result k) in
-    (both).0
+    (c.term_len-k.ensures Mode.pattern (c.loop-inner.invariant.1 c.requires.0 c.requires.1).there).fits
 
 pub absorbing_split-slice_bounds-x-start : goal.absorbing_split-slice_bounds-x-start
 absorbing_split-slice_bounds-x-start t c =
-    let splitting : Splitting c.args.fuel c.loop-inner.x.now c.loop-inner.f c.loop-inner.verdict c.requires.0.terms c.requires.1.terms = c.loop-inner.invariant.1 c.requires.0 c.requires.1 in
-    let both : (c.term_len-k.result ≤ length c.loop-inner.x.now) × (0 < c.term_len-k.result) = let p = splitting.there in
-    let k = c.term_len-k.ensures Mode.pattern p in
-    (k.fits, term_long p c.if-x-eq15.false c.term_len-k.result k) in
-    (both).0
+    (c.term_len-k.ensures Mode.pattern (c.loop-inner.invariant.1 c.requires.0 c.requires.1).there).fits
 
 pub absorbing_split-slice_bounds-x-end : goal.absorbing_split-slice_bounds-x-end
 absorbing_split-slice_bounds-x-end t c = omega arith
 
 pub absorbing_split-loop-inner-smaller : goal.absorbing_split-loop-inner-smaller
 absorbing_split-loop-inner-smaller t c =
-    let splitting : Splitting c.args.fuel c.loop-inner.x.now c.loop-inner.f c.loop-inner.verdict c.requires.0.terms c.requires.1.terms = c.loop-inner.invariant.1 c.requires.0 c.requires.1 in
-    let both : (c.term_len-k.result ≤ length c.loop-inner.x.now) × (0 < c.term_len-k.result) = let p = splitting.there in
-    let k = c.term_len-k.ensures Mode.pattern p in
-    (k.fits, term_long p c.if-x-eq15.false c.term_len-k.result k) in
-    omega (
-      arith,
-      both,
-      part_length c.loop-inner.x.now c.term_len-k.result,
-    )
+    let p = (c.loop-inner.invariant.1 c.requires.0 c.requires.1).there in
+    omega (arith, shorter p c.if-x-eq15.false c.term_len-k.result (c.term_len-k.ensures Mode.pattern p))
 
 pub absorbing_split-loop-inner-preserved : goal.absorbing_split-loop-inner-preserved
 absorbing_split-loop-inner-preserved t c =
@@ -107,13 +96,11 @@ absorbing_split-loop-inner-preserved t c =
 
 pub overlap_of_terms-bounds-left-0 : goal.overlap_of_terms-bounds-left-0
 overlap_of_terms-bounds-left-0 t c =
-    let below : 9 < length c.args.left.now = head-room c.requires.0 in
-    omega (arith, below)
+    omega (arith, head-room c.requires.0)
 
 pub overlap_of_terms-bounds-right-0 : goal.overlap_of_terms-bounds-right-0
 overlap_of_terms-bounds-right-0 t c =
-    let below : 9 < length c.args.right.now = head-room c.requires.1 in
-    omega (arith, below)
+    omega (arith, head-room c.requires.1)
 
 -- A limit is met.
 pub overlap_of_terms-returns-in_err-inner-clause-ends : goal.overlap_of_terms-returns-in_err-inner-clause-ends
@@ -121,37 +108,31 @@ overlap_of_terms-returns-in_err-inner-clause-ends t c = λ a. not_stopped (c.ins
 
 pub overlap_of_terms-slice_bounds-sequence-count : goal.overlap_of_terms-slice_bounds-sequence-count
 overlap_of_terms-slice_bounds-sequence-count t c =
-    let below : 9 < length c.args.left.now = head-room c.requires.0 in
-    omega (arith, below)
+    omega (arith, head-room c.requires.0)
 
 pub overlap_of_terms-slice_bounds-sequence-start : goal.overlap_of_terms-slice_bounds-sequence-start
 overlap_of_terms-slice_bounds-sequence-start t c =
-    let below : 9 < length c.args.left.now = head-room c.requires.0 in
-    omega (arith, below)
+    omega (arith, head-room c.requires.0)
 
 pub overlap_of_terms-slice_bounds-sequence-end : goal.overlap_of_terms-slice_bounds-sequence-end
 overlap_of_terms-slice_bounds-sequence-end t c = omega arith
 
 pub overlap_of_terms-slice_bounds-sequence-count-then-right-eq7 : goal.overlap_of_terms-slice_bounds-sequence-count-then-right-eq7
 overlap_of_terms-slice_bounds-sequence-count-then-right-eq7 t c =
-    let below : 9 < length c.args.right.now = head-room c.requires.1 in
-    omega (arith, below)
+    omega (arith, head-room c.requires.1)
 
 pub overlap_of_terms-slice_bounds-sequence-start-then-right-eq7 : goal.overlap_of_terms-slice_bounds-sequence-start-then-right-eq7
 overlap_of_terms-slice_bounds-sequence-start-then-right-eq7 t c =
-    let below : 9 < length c.args.right.now = head-room c.requires.1 in
-    omega (arith, below)
+    omega (arith, head-room c.requires.1)
 
 pub overlap_of_terms-slice_bounds-sequence-end-then-right-eq7 : goal.overlap_of_terms-slice_bounds-sequence-end-then-right-eq7
 overlap_of_terms-slice_bounds-sequence-end-then-right-eq7 t c = omega arith
 
 pub overlap_of_terms-sequence-requires : goal.overlap_of_terms-sequence-requires
-overlap_of_terms-sequence-requires t c =
-    let below : 9 < length c.args.left.now = head-room c.requires.0 in
-    let below_2 : 9 < length c.args.right.now = head-room c.requires.1 in (
-      omega (arith, c.decreases, below, below_2, part_length c.args.left.now 9, part_length c.args.right.now 9),
-      ((bracket-at c.requires.0 c.if-left-eq7.true).inner, (bracket-at c.requires.1 c.if-right-eq7.true).inner),
-    )
+overlap_of_terms-sequence-requires t c = (
+  omega (arith, c.decreases, head-room c.requires.0, head-room c.requires.1, part_length c.args.left.now 9, part_length c.args.right.now 9),
+  ((bracket-at c.requires.0 c.if-left-eq7.true).inner, (bracket-at c.requires.1 c.if-right-eq7.true).inner),
+)
 
 pub overlap_of_terms-returns-then-right-eq7 : goal.overlap_of_terms-returns-then-right-eq7
 overlap_of_terms-returns-then-right-eq7 t c = record {
@@ -181,19 +162,16 @@ sequence-loop-f-init t c = (omega arith, λ u v. record { first = u; second = v;
 
 pub sequence-bounds-x-0 : goal.sequence-bounds-x-0
 sequence-bounds-x-0 t c =
-    let reached : Reached c.args.fuel c.loop-f.x.now c.loop-f.y.now c.loop-f.f c.loop-f.heads c.requires.0.terms c.requires.1.terms = c.loop-f.invariant.1 c.requires.0 c.requires.1 in
-    pattern-room reached.first
+    pattern-room (c.loop-f.invariant.1 c.requires.0 c.requires.1).first
 
 pub sequence-bounds-y-0 : goal.sequence-bounds-y-0
 sequence-bounds-y-0 t c =
-    let reached : Reached c.args.fuel c.loop-f.x.now c.loop-f.y.now c.loop-f.f c.loop-f.heads c.requires.0.terms c.requires.1.terms = c.loop-f.invariant.1 c.requires.0 c.requires.1 in
-    pattern-room reached.second
+    pattern-room (c.loop-f.invariant.1 c.requires.0 c.requires.1).second
 
 -- One of the two is at its close.
 pub sequence-leftover_overlap-requires : goal.sequence-leftover_overlap-requires
 sequence-leftover_overlap-requires t c =
-    let reached : Reached c.args.fuel c.loop-f.x.now c.loop-f.y.now c.loop-f.f c.loop-f.heads c.requires.0.terms c.requires.1.terms = c.loop-f.invariant.1 c.requires.0 c.requires.1 in
-    (reached).second
+    (c.loop-f.invariant.1 c.requires.0 c.requires.1).second
 
 pub sequence-returns-then-m-eq15 : goal.sequence-returns-then-m-eq15
 sequence-returns-then-m-eq15 t c = record {
@@ -206,8 +184,7 @@ sequence-returns-then-m-eq15 t c = record {
 
 pub sequence-leftover_overlap-requires-then-n-eq15 : goal.sequence-leftover_overlap-requires-then-n-eq15
 sequence-leftover_overlap-requires-then-n-eq15 t c =
-    let reached : Reached c.args.fuel c.loop-f.x.now c.loop-f.y.now c.loop-f.f c.loop-f.heads c.requires.0.terms c.requires.1.terms = c.loop-f.invariant.1 c.requires.0 c.requires.1 in
-    (reached).first
+    (c.loop-f.invariant.1 c.requires.0 c.requires.1).first
 
 pub sequence-returns-then-n-eq15 : goal.sequence-returns-then-n-eq15
 sequence-returns-then-n-eq15 t c = record {
@@ -221,43 +198,24 @@ sequence-returns-then-n-eq15 t c = record {
 -- The first is at an `e.` variable.
 pub sequence-term_len-k-requires : goal.sequence-term_len-k-requires
 sequence-term_len-k-requires t c =
-    let reached : Reached c.args.fuel c.loop-f.x.now c.loop-f.y.now c.loop-f.f c.loop-f.heads c.requires.0.terms c.requires.1.terms = c.loop-f.invariant.1 c.requires.0 c.requires.1 in
-    result-at reached.first
+    result-at (c.loop-f.invariant.1 c.requires.0 c.requires.1).first
 
 pub sequence-slice_bounds-absorbing_split-count : goal.sequence-slice_bounds-absorbing_split-count
 sequence-slice_bounds-absorbing_split-count t c =
-    let reached : Reached c.args.fuel c.loop-f.x.now c.loop-f.y.now c.loop-f.f c.loop-f.heads c.requires.0.terms c.requires.1.terms = c.loop-f.invariant.1 c.requires.0 c.requires.1 in
-    let both : (c.term_len-k.result ≤ length c.loop-f.x.now) × (0 < c.term_len-k.result) = let p = reached.first in
-    let k = c.term_len-k.ensures Mode.pattern p in
-    (k.fits, term_long p c.if-m-eq15.false c.term_len-k.result k) in
-    (both).0
+    (c.term_len-k.ensures Mode.pattern (c.loop-f.invariant.1 c.requires.0 c.requires.1).first).fits
 
 pub sequence-slice_bounds-absorbing_split-start : goal.sequence-slice_bounds-absorbing_split-start
 sequence-slice_bounds-absorbing_split-start t c =
-    let reached : Reached c.args.fuel c.loop-f.x.now c.loop-f.y.now c.loop-f.f c.loop-f.heads c.requires.0.terms c.requires.1.terms = c.loop-f.invariant.1 c.requires.0 c.requires.1 in
-    let both : (c.term_len-k.result ≤ length c.loop-f.x.now) × (0 < c.term_len-k.result) = let p = reached.first in
-    let k = c.term_len-k.ensures Mode.pattern p in
-    (k.fits, term_long p c.if-m-eq15.false c.term_len-k.result k) in
-    (both).0
+    (c.term_len-k.ensures Mode.pattern (c.loop-f.invariant.1 c.requires.0 c.requires.1).first).fits
 
 pub sequence-slice_bounds-absorbing_split-end : goal.sequence-slice_bounds-absorbing_split-end
 sequence-slice_bounds-absorbing_split-end t c = omega arith
 
 pub sequence-absorbing_split-requires : goal.sequence-absorbing_split-requires
 sequence-absorbing_split-requires t c =
-    let reached : Reached c.args.fuel c.loop-f.x.now c.loop-f.y.now c.loop-f.f c.loop-f.heads c.requires.0.terms c.requires.1.terms = c.loop-f.invariant.1 c.requires.0 c.requires.1 in
-    let both : (c.term_len-k.result ≤ length c.loop-f.x.now) × (0 < c.term_len-k.result) = let p = reached.first in
-    let k = c.term_len-k.ensures Mode.pattern p in
-    (k.fits, term_long p c.if-m-eq15.false c.term_len-k.result k) in
-    let g = reached in
+    let g = c.loop-f.invariant.1 c.requires.0 c.requires.1 in
     let k = c.term_len-k in (
-      omega (
-        arith,
-        c.decreases,
-        c.loop-f.invariant.0,
-        part_length c.loop-f.x.now k.result,
-        both,
-      ),
+      omega (arith, c.decreases, c.loop-f.invariant.0, shorter g.first c.if-m-eq15.false k.result (k.ensures Mode.pattern g.first)),
       (rest_at g.first k.result (k.ensures Mode.pattern g.first), g.second),
     )
 
@@ -273,43 +231,24 @@ sequence-returns-then-m-eq6 t c = let k = c.term_len-k in record {
 -- The second is.
 pub sequence-term_len-l-requires : goal.sequence-term_len-l-requires
 sequence-term_len-l-requires t c =
-    let reached : Reached c.args.fuel c.loop-f.x.now c.loop-f.y.now c.loop-f.f c.loop-f.heads c.requires.0.terms c.requires.1.terms = c.loop-f.invariant.1 c.requires.0 c.requires.1 in
-    result-at reached.second
+    result-at (c.loop-f.invariant.1 c.requires.0 c.requires.1).second
 
 pub sequence-slice_bounds-absorbing_split-count-then-n-eq6 : goal.sequence-slice_bounds-absorbing_split-count-then-n-eq6
 sequence-slice_bounds-absorbing_split-count-then-n-eq6 t c =
-    let reached : Reached c.args.fuel c.loop-f.x.now c.loop-f.y.now c.loop-f.f c.loop-f.heads c.requires.0.terms c.requires.1.terms = c.loop-f.invariant.1 c.requires.0 c.requires.1 in
-    let both : (c.term_len-l.result ≤ length c.loop-f.y.now) × (0 < c.term_len-l.result) = let p = reached.second in
-    let k = c.term_len-l.ensures Mode.pattern p in
-    (k.fits, term_long p c.if-n-eq15.false c.term_len-l.result k) in
-    (both).0
+    (c.term_len-l.ensures Mode.pattern (c.loop-f.invariant.1 c.requires.0 c.requires.1).second).fits
 
 pub sequence-slice_bounds-absorbing_split-start-then-n-eq6 : goal.sequence-slice_bounds-absorbing_split-start-then-n-eq6
 sequence-slice_bounds-absorbing_split-start-then-n-eq6 t c =
-    let reached : Reached c.args.fuel c.loop-f.x.now c.loop-f.y.now c.loop-f.f c.loop-f.heads c.requires.0.terms c.requires.1.terms = c.loop-f.invariant.1 c.requires.0 c.requires.1 in
-    let both : (c.term_len-l.result ≤ length c.loop-f.y.now) × (0 < c.term_len-l.result) = let p = reached.second in
-    let k = c.term_len-l.ensures Mode.pattern p in
-    (k.fits, term_long p c.if-n-eq15.false c.term_len-l.result k) in
-    (both).0
+    (c.term_len-l.ensures Mode.pattern (c.loop-f.invariant.1 c.requires.0 c.requires.1).second).fits
 
 pub sequence-slice_bounds-absorbing_split-end-then-n-eq6 : goal.sequence-slice_bounds-absorbing_split-end-then-n-eq6
 sequence-slice_bounds-absorbing_split-end-then-n-eq6 t c = omega arith
 
 pub sequence-absorbing_split-requires-then-n-eq6 : goal.sequence-absorbing_split-requires-then-n-eq6
 sequence-absorbing_split-requires-then-n-eq6 t c =
-    let reached : Reached c.args.fuel c.loop-f.x.now c.loop-f.y.now c.loop-f.f c.loop-f.heads c.requires.0.terms c.requires.1.terms = c.loop-f.invariant.1 c.requires.0 c.requires.1 in
-    let both : (c.term_len-l.result ≤ length c.loop-f.y.now) × (0 < c.term_len-l.result) = let p = reached.second in
-    let k = c.term_len-l.ensures Mode.pattern p in
-    (k.fits, term_long p c.if-n-eq15.false c.term_len-l.result k) in
-    let g = reached in
+    let g = c.loop-f.invariant.1 c.requires.0 c.requires.1 in
     let k = c.term_len-l in (
-      omega (
-        arith,
-        c.decreases,
-        c.loop-f.invariant.0,
-        part_length c.loop-f.y.now k.result,
-        both,
-      ),
+      omega (arith, c.decreases, c.loop-f.invariant.0, shorter g.second c.if-n-eq15.false k.result (k.ensures Mode.pattern g.second)),
       (rest_at g.second k.result (k.ensures Mode.pattern g.second), g.first),
     )
 
@@ -325,8 +264,7 @@ sequence-returns-then-n-eq6 t c = let k = c.term_len-l in record {
 -- Neither is: the heads are compared.
 pub sequence-overlap_of_terms-requires : goal.sequence-overlap_of_terms-requires
 sequence-overlap_of_terms-requires t c =
-    let reached : Reached c.args.fuel c.loop-f.x.now c.loop-f.y.now c.loop-f.f c.loop-f.heads c.requires.0.terms c.requires.1.terms = c.loop-f.invariant.1 c.requires.0 c.requires.1 in
-    let g = reached in (
+    let g = c.loop-f.invariant.1 c.requires.0 c.requires.1 in (
       omega (arith, c.decreases, c.loop-f.invariant.0),
       (head_at g.first c.if-m-eq15.false c.if-m-eq6.false, head_at g.second c.if-n-eq15.false c.if-n-eq6.false),
     )
@@ -350,36 +288,30 @@ sequence-returns-then-eq t c = record {
 
 pub sequence-term_len-k-requires-in-loop-f : goal.sequence-term_len-k-requires-in-loop-f
 sequence-term_len-k-requires-in-loop-f t c =
-    let reached : Reached c.args.fuel c.loop-f.x.now c.loop-f.y.now c.loop-f.f c.loop-f.heads c.requires.0.terms c.requires.1.terms = c.loop-f.invariant.1 c.requires.0 c.requires.1 in
-    result-at reached.first
+    result-at (c.loop-f.invariant.1 c.requires.0 c.requires.1).first
 
 pub sequence-slice_bounds-x-count : goal.sequence-slice_bounds-x-count
 sequence-slice_bounds-x-count t c =
-    let reached : Reached c.args.fuel c.loop-f.x.now c.loop-f.y.now c.loop-f.f c.loop-f.heads c.requires.0.terms c.requires.1.terms = c.loop-f.invariant.1 c.requires.0 c.requires.1 in
-    (c.term_len-k-in-loop-f.ensures Mode.pattern reached.first).fits
+    (c.term_len-k-in-loop-f.ensures Mode.pattern (c.loop-f.invariant.1 c.requires.0 c.requires.1).first).fits
 
 pub sequence-slice_bounds-x-start : goal.sequence-slice_bounds-x-start
 sequence-slice_bounds-x-start t c =
-    let reached : Reached c.args.fuel c.loop-f.x.now c.loop-f.y.now c.loop-f.f c.loop-f.heads c.requires.0.terms c.requires.1.terms = c.loop-f.invariant.1 c.requires.0 c.requires.1 in
-    (c.term_len-k-in-loop-f.ensures Mode.pattern reached.first).fits
+    (c.term_len-k-in-loop-f.ensures Mode.pattern (c.loop-f.invariant.1 c.requires.0 c.requires.1).first).fits
 
 pub sequence-slice_bounds-x-end : goal.sequence-slice_bounds-x-end
 sequence-slice_bounds-x-end t c = omega arith
 
 pub sequence-term_len-l-requires-in-loop-f : goal.sequence-term_len-l-requires-in-loop-f
 sequence-term_len-l-requires-in-loop-f t c =
-    let reached : Reached c.args.fuel c.loop-f.x.now c.loop-f.y.now c.loop-f.f c.loop-f.heads c.requires.0.terms c.requires.1.terms = c.loop-f.invariant.1 c.requires.0 c.requires.1 in
-    result-at reached.second
+    result-at (c.loop-f.invariant.1 c.requires.0 c.requires.1).second
 
 pub sequence-slice_bounds-y-count : goal.sequence-slice_bounds-y-count
 sequence-slice_bounds-y-count t c =
-    let reached : Reached c.args.fuel c.loop-f.x.now c.loop-f.y.now c.loop-f.f c.loop-f.heads c.requires.0.terms c.requires.1.terms = c.loop-f.invariant.1 c.requires.0 c.requires.1 in
-    (c.term_len-l-in-loop-f.ensures Mode.pattern reached.second).fits
+    (c.term_len-l-in-loop-f.ensures Mode.pattern (c.loop-f.invariant.1 c.requires.0 c.requires.1).second).fits
 
 pub sequence-slice_bounds-y-start : goal.sequence-slice_bounds-y-start
 sequence-slice_bounds-y-start t c =
-    let reached : Reached c.args.fuel c.loop-f.x.now c.loop-f.y.now c.loop-f.f c.loop-f.heads c.requires.0.terms c.requires.1.terms = c.loop-f.invariant.1 c.requires.0 c.requires.1 in
-    (c.term_len-l-in-loop-f.ensures Mode.pattern reached.second).fits
+    (c.term_len-l-in-loop-f.ensures Mode.pattern (c.loop-f.invariant.1 c.requires.0 c.requires.1).second).fits
 
 pub sequence-slice_bounds-y-end : goal.sequence-slice_bounds-y-end
 sequence-slice_bounds-y-end t c = omega arith

@@ -1,6 +1,5 @@
 use native.Mathlib.Omega.{arith}
-use mathlib.Core.Path.{◌≡◌, refl, sym, ap, subst}
-use mathlib.Core.Bool.{Bool}
+use mathlib.Core.Path.{◌≡◌, refl, sym, ap, subst, ◌∙◌}
 use mathlib.Core.List.{List}
 use Prim.Native.Nat.{ℕ, ◌+◌, ◌-◌, ◌≤◌, ◌<◌}
 use lib.ListN.{length, take, drop, length-drop}
@@ -10,6 +9,26 @@ use Rattle.told.specs.Kept.{is_kept}
 use Rattle.output.specs.Items.{Item, after}
 use Rattle.output.proofs.Walking.{Does, writes_start, writes_turn, writes_end, item_here, item_some, item_within, written_le, ones_le}
 use Rattle.output.proofs.writer.write_functions.Goals as goal
+use Rattle.output.proofs.writer.write_functions.Goals.{After-item_len-w}
+
+part-length : (b : List ℕ) (p : ℕ) → length (take (length b - p) (drop p b)) ≡ length b - p
+part-length b p = ap length (part_rest b p) ∙ length-drop p b
+
+-- The item's length, of what stands in the body at p.
+item-passes : (c : After-item_len-w) (x : Item (drop c.loop-p.p c.args.body.now)) → Passes (drop c.loop-p.p c.args.body.now) c.item_len-w.result (after (drop c.loop-p.p c.args.body.now) x)
+item-passes c = subst (λ (s : List ℕ). (x : Item s) → Passes s c.item_len-w.result (after s x)) (part_rest c.args.body.now c.loop-p.p) c.item_len-w.ensures
+
+item-fits : (c : After-item_len-w) → (0 < c.item_len-w.result) × (c.loop-p.p + c.item_len-w.result ≤ length c.args.body.now)
+item-fits c =
+    let b = c.args.body.now in
+    let o = c.args.output.now in
+    let keep = is_kept c.args.marks.now in
+    let l = c.loop-p in
+    let fs = c.requires.2.functions in
+    let y = l.invariant.5 c.requires.2 in (
+      item_some b o c.args.from keep fs l.p l.q l.i l.sentences l.output c.loop-p-test.true y c.item_len-w.result (item-passes c),
+      item_within b o c.args.from keep fs l.p l.q l.i l.sentences l.output c.loop-p-test.true y c.item_len-w.result (item-passes c),
+    )
 
 pub loop-p-init : goal.loop-p-init
 loop-p-init c = (c.requires.0, omega arith, omega arith, omega arith, refl, λ h. writes_start c.args.body.now c.args.output.now c.args.from (is_kept c.args.marks.now) h (omega (arith, c.requires.0, c.requires.1)))
@@ -25,156 +44,83 @@ slice_bounds-s-end c = omega arith
 
 pub item_len-w-requires : goal.item_len-w-requires
 item_len-w-requires c =
-    let a = c.args in
-    let g = c.requires in
+    let b = c.args.body.now in
     let l = c.loop-p in
-    let b : List ℕ = a.body.now in
-    let t : l.p < length b = c.loop-p-test.true in
-    let keep : ℕ → Bool = is_kept a.marks.now in
-    let e : take (length b - l.p) (drop l.p b) ≡ drop l.p b = part_rest b l.p in
-    subst Item (sym e) (item_here b a.output.now a.from keep g.2.functions l.p l.q l.i l.sentences l.output t (l.invariant.5 g.2))
+    subst Item (sym (part_rest b l.p)) (item_here b c.args.output.now c.args.from (is_kept c.args.marks.now) c.requires.2.functions l.p l.q l.i l.sentences l.output c.loop-p-test.true (l.invariant.5 c.requires.2))
 
 pub written_len-n-requires : goal.written_len-n-requires
-written_len-n-requires c =
-    let a = c.args in
-    let l = c.loop-p in
-    let b : List ℕ = a.body.now in
-    let t : l.p < length b = c.loop-p-test.true in
-    let e : take (length b - l.p) (drop l.p b) ≡ drop l.p b = part_rest b l.p in
-    omega (arith, t, ap length e, length-drop l.p b)
+written_len-n-requires c = omega (arith, part-length c.args.body.now c.loop-p.p)
 
 pub copy_bytes-requires : goal.copy_bytes-requires
 copy_bytes-requires c =
-    let a = c.args in
-    let g = c.requires in
+    let b = c.args.body.now in
     let l = c.loop-p in
-    let b : List ℕ = a.body.now in
-    let t : l.p < length b = c.loop-p-test.true in
-    let keep : ℕ → Bool = is_kept a.marks.now in
-    let e : take (length b - l.p) (drop l.p b) ≡ drop l.p b = part_rest b l.p in
-    let w : ℕ = c.item_len-w.result in
-    let m : ℕ = c.written_len-n.result in
-    let ps : (x : Item (drop l.p b)) → Passes (drop l.p b) w (after (drop l.p b) x) = subst (λ (s : List ℕ). (x : Item s) → Passes s w (after s x)) e c.item_len-w.ensures in
-    let x : l.p + w ≤ length b = item_within b a.output.now a.from keep g.2.functions l.p l.q l.i l.sentences l.output t (l.invariant.5 g.2) w ps in
-    let y : m ≤ w = written_le keep l.i (take (length b - l.p) (drop l.p b)) w m c.written_len-n.ensures in
-    (omega (arith, x, y, ap length e, length-drop l.p b), omega (arith, x, y, g.1, l.invariant.1, l.invariant.4))
+    let s = take (length b - l.p) (drop l.p b) in
+    let x = item-fits (goal.at.copy_bytes-requires c).After-item_len-w in
+    let y = written_le (is_kept c.args.marks.now) l.i s c.item_len-w.result c.written_len-n.result c.written_len-n.ensures in
+    (omega (arith, x, y, part-length b l.p), omega (arith, x, y, c.requires.1, l.invariant.1, l.invariant.4))
 
 pub kept_one-sentences-requires : goal.kept_one-sentences-requires
-kept_one-sentences-requires c =
-    let a = c.args in
-    let l = c.loop-p in
-    let b : List ℕ = a.body.now in
-    let t : l.p < length b = c.loop-p-test.true in
-    let e : take (length b - l.p) (drop l.p b) ≡ drop l.p b = part_rest b l.p in
-    omega (arith, t, ap length e, length-drop l.p b)
+kept_one-sentences-requires c = omega (arith, part-length c.args.body.now c.loop-p.p)
 
 pub overflow_add-sentences : goal.overflow_add-sentences
 overflow_add-sentences c =
-    let a = c.args in
+    let b = c.args.body.now in
     let l = c.loop-p in
-    let b : List ℕ = a.body.now in
-    let t : l.p < length b = c.loop-p-test.true in
-    let keep : ℕ → Bool = is_kept a.marks.now in
-    let u = ones_le keep l.i (take (length b - l.p) (drop l.p b)) in
-    omega (arith, c.kept_one-sentences.ensures, u.0, u.1, t, l.invariant.2, l.invariant.3)
+    omega (arith, c.kept_one-sentences.ensures, ones_le (is_kept c.args.marks.now) l.i (take (length b - l.p) (drop l.p b)), c.loop-p-test.true, l.invariant.2, l.invariant.3)
 
 pub sentence_one-i-requires : goal.sentence_one-i-requires
-sentence_one-i-requires c =
-    let a = c.args in
-    let l = c.loop-p in
-    let b : List ℕ = a.body.now in
-    let t : l.p < length b = c.loop-p-test.true in
-    let e : take (length b - l.p) (drop l.p b) ≡ drop l.p b = part_rest b l.p in
-    omega (arith, t, ap length e, length-drop l.p b)
+sentence_one-i-requires c = omega (arith, part-length c.args.body.now c.loop-p.p)
 
 pub overflow_add-i : goal.overflow_add-i
 overflow_add-i c =
-    let a = c.args in
+    let b = c.args.body.now in
     let l = c.loop-p in
-    let b : List ℕ = a.body.now in
-    let t : l.p < length b = c.loop-p-test.true in
-    let keep : ℕ → Bool = is_kept a.marks.now in
-    let u = ones_le keep l.i (take (length b - l.p) (drop l.p b)) in
-    omega (arith, c.sentence_one-i.ensures, u.1, t, l.invariant.2)
+    omega (arith, c.sentence_one-i.ensures, ones_le (is_kept c.args.marks.now) l.i (take (length b - l.p) (drop l.p b)), c.loop-p-test.true, l.invariant.2)
 
 pub overflow_add-q : goal.overflow_add-q
 overflow_add-q c =
-    let a = c.args in
-    let g = c.requires in
+    let b = c.args.body.now in
     let l = c.loop-p in
-    let b : List ℕ = a.body.now in
-    let t : l.p < length b = c.loop-p-test.true in
-    let keep : ℕ → Bool = is_kept a.marks.now in
-    let e : take (length b - l.p) (drop l.p b) ≡ drop l.p b = part_rest b l.p in
-    let w : ℕ = c.item_len-w.result in
-    let m : ℕ = c.written_len-n.result in
-    let ps : (x : Item (drop l.p b)) → Passes (drop l.p b) w (after (drop l.p b) x) = subst (λ (s : List ℕ). (x : Item s) → Passes s w (after s x)) e c.item_len-w.ensures in
-    let x : l.p + w ≤ length b = item_within b a.output.now a.from keep g.2.functions l.p l.q l.i l.sentences l.output t (l.invariant.5 g.2) w ps in
-    let y : m ≤ w = written_le keep l.i (take (length b - l.p) (drop l.p b)) w m c.written_len-n.ensures in
-    omega (arith, x, y, l.invariant.1)
+    let s = take (length b - l.p) (drop l.p b) in
+    omega (arith, item-fits (goal.at.overflow_add-q c).After-item_len-w, written_le (is_kept c.args.marks.now) l.i s c.item_len-w.result c.written_len-n.result c.written_len-n.ensures, l.invariant.1)
 
 pub overflow_add-p : goal.overflow_add-p
-overflow_add-p c =
-    let a = c.args in
-    let g = c.requires in
-    let l = c.loop-p in
-    let b : List ℕ = a.body.now in
-    let t : l.p < length b = c.loop-p-test.true in
-    let keep : ℕ → Bool = is_kept a.marks.now in
-    let e : take (length b - l.p) (drop l.p b) ≡ drop l.p b = part_rest b l.p in
-    let w : ℕ = c.item_len-w.result in
-    let ps : (x : Item (drop l.p b)) → Passes (drop l.p b) w (after (drop l.p b) x) = subst (λ (s : List ℕ). (x : Item s) → Passes s w (after s x)) e c.item_len-w.ensures in
-    let x : l.p + w ≤ length b = item_within b a.output.now a.from keep g.2.functions l.p l.q l.i l.sentences l.output t (l.invariant.5 g.2) w ps in
-    omega (arith, x)
+overflow_add-p c = omega (arith, item-fits (goal.at.overflow_add-p c).After-item_len-w)
 
 pub loop-p-smaller : goal.loop-p-smaller
-loop-p-smaller c =
-    let a = c.args in
-    let g = c.requires in
-    let l = c.loop-p in
-    let b : List ℕ = a.body.now in
-    let t : l.p < length b = c.loop-p-test.true in
-    let keep : ℕ → Bool = is_kept a.marks.now in
-    let e : take (length b - l.p) (drop l.p b) ≡ drop l.p b = part_rest b l.p in
-    let w : ℕ = c.item_len-w.result in
-    let ps : (x : Item (drop l.p b)) → Passes (drop l.p b) w (after (drop l.p b) x) = subst (λ (s : List ℕ). (x : Item s) → Passes s w (after s x)) e c.item_len-w.ensures in
-    let x : l.p + w ≤ length b = item_within b a.output.now a.from keep g.2.functions l.p l.q l.i l.sentences l.output t (l.invariant.5 g.2) w ps in
-    let z : 0 < w = item_some b a.output.now a.from keep g.2.functions l.p l.q l.i l.sentences l.output t (l.invariant.5 g.2) w ps in
-    omega (arith, x, z)
+loop-p-smaller c = omega (arith, item-fits (goal.at.loop-p-smaller c).After-item_len-w)
 
 pub loop-p-preserved : goal.loop-p-preserved
 loop-p-preserved c =
     let a = c.args in
-    let g = c.requires in
     let l = c.loop-p in
-    let b : List ℕ = a.body.now in
-    let t : l.p < length b = c.loop-p-test.true in
-    let keep : ℕ → Bool = is_kept a.marks.now in
-    let e : take (length b - l.p) (drop l.p b) ≡ drop l.p b = part_rest b l.p in
-    let w : ℕ = c.item_len-w.result in
-    let m : ℕ = c.written_len-n.result in
-    let ps : (x : Item (drop l.p b)) → Passes (drop l.p b) w (after (drop l.p b) x) = subst (λ (s : List ℕ). (x : Item s) → Passes s w (after s x)) e c.item_len-w.ensures in
-    let x : l.p + w ≤ length b = item_within b a.output.now a.from keep g.2.functions l.p l.q l.i l.sentences l.output t (l.invariant.5 g.2) w ps in
-    let z : 0 < w = item_some b a.output.now a.from keep g.2.functions l.p l.q l.i l.sentences l.output t (l.invariant.5 g.2) w ps in
-    let y : m ≤ w = written_le keep l.i (take (length b - l.p) (drop l.p b)) w m c.written_len-n.ensures in
-    let u = ones_le keep l.i (take (length b - l.p) (drop l.p b)) in
-    let d : Does keep l.i l.q l.output (drop l.p b) w m c.sentence_one-i.result c.kept_one-sentences.result c.copy_bytes.new.dst =
-    subst (λ (s : List ℕ). Does keep l.i l.q l.output s w m c.sentence_one-i.result c.kept_one-sentences.result c.copy_bytes.new.dst) e
-    (record { passes = c.item_len-w.ensures; len = c.written_len-n.ensures; one = c.sentence_one-i.ensures; kept-one = c.kept_one-sentences.ensures; new_is = c.copy_bytes.ensures }) in (
-      x,
-      omega (arith, y, l.invariant.1),
-      omega (arith, z, u.1, c.sentence_one-i.ensures, l.invariant.2),
-      omega (arith, u.0, c.sentence_one-i.ensures, c.kept_one-sentences.ensures, l.invariant.3),
+    let b = a.body.now in
+    let keep = is_kept a.marks.now in
+    let s = take (length b - l.p) (drop l.p b) in
+    let w = c.item_len-w in
+    let m = c.written_len-n in
+    let one = c.sentence_one-i in
+    let kept = c.kept_one-sentences in
+    let x = item-fits (goal.at.loop-p-preserved c).After-item_len-w in
+    let y = written_le keep l.i s w.result m.result m.ensures in
+    let u = ones_le keep l.i s in
+    let d : Does keep l.i l.q l.output (drop l.p b) w.result m.result one.result kept.result c.copy_bytes.new.dst =
+    subst (λ (s : List ℕ). Does keep l.i l.q l.output s w.result m.result one.result kept.result c.copy_bytes.new.dst) (part_rest b l.p)
+    (record { passes = w.ensures; len = m.ensures; one = one.ensures; kept-one = kept.ensures; new_is = c.copy_bytes.ensures }) in (
+      x.1,
+      omega (arith, x.1, y, l.invariant.1),
+      omega (arith, x.0, u.1, one.ensures, l.invariant.2),
+      omega (arith, u.0, one.ensures, kept.ensures, l.invariant.3),
       omega arith,
-      λ h. writes_turn b a.output.now a.from keep h.functions l.p l.q l.i l.sentences l.output t (l.invariant.5 h) w m c.sentence_one-i.result c.kept_one-sentences.result c.copy_bytes.new.dst d,
+      λ h. writes_turn b a.output.now a.from keep h.functions l.p l.q l.i l.sentences l.output c.loop-p-test.true (l.invariant.5 h) w.result m.result one.result kept.result c.copy_bytes.new.dst d,
     )
 
 pub shape_of-output : goal.shape_of-output
 shape_of-output c = c.loop-p.invariant.4
 
 pub returns : goal.returns
-returns c =
+returns c = λ h.
     let a = c.args in
-    let g = c.requires in
     let l = c.loop-p in
-    λ h. writes_end a.body.now a.output.now a.from (is_kept a.marks.now) h.functions l.p l.q l.i l.sentences l.output (omega (arith, g.0, g.1)) (l.invariant.5 h) c.loop-p-test.false
+    writes_end a.body.now a.output.now a.from (is_kept a.marks.now) h.functions l.p l.q l.i l.sentences l.output (omega (arith, c.requires.0, c.requires.1)) (l.invariant.5 h) c.loop-p-test.false

@@ -1,20 +1,21 @@
-use Prim.Native.Nat.{ℕ, ◌+◌, ◌<◌, ◌≤◌, ◌-◌, suc}
+use Prim.Native.Nat.{ℕ, ◌+◌, ◌<◌, ◌-◌, suc}
 use native.Mathlib.Omega.{arith}
 use mathlib.Core.Path.{◌≡◌, refl, sym, ap, ◌∙◌, subst}
-use lib.ListN.{length}
+use mathlib.Core.Bool.{Bool}
+use lib.ListN.{length, drop, get_or}
 use Rattle.program.specs.Limits.{Mode}
-use Rattle.image.specs.Parts.{tail}
+use Rattle.program.specs.Encode.{put_terms}
+use Rattle.image.specs.Parts.{Passes, TermsAt, tail}
 use Rattle.image.proofs.Readings.{result-at}
-use Rattle.rows.proofs.Readings.{inside, at_part, after_term, mark_in, next_fits}
+use Rattle.rows.proofs.Readings.{part, inside, at_part, after_term, mark_in}
 use Rattle.overlap.specs.Way.{Next, End, Way, in_turn}
-use Rattle.overlap.proofs.Ways.{next_place, mark-at, inner_at, head_part, head_inside}
-use Rattle.expression.specs.Walk.{head_bytes, meet_bytes}
+use Rattle.overlap.proofs.Ways.{next_place, term-within, mark-at, inner_at, head_part, head_inside}
+use Rattle.expression.specs.Walk.{Heads, head_bytes, meet_bytes}
 use Rattle.expression.proofs.Freeing.{front_fits, whole-written}
 use Rattle.expression.proofs.Walking.{stepped_as, stepped_first, stepped_on, stepped_short}
 use Rattle.expression.proofs.Leading.{ahead-first, ahead-second, way_at_heads, in_turn-kept}
 use Rattle.expression.proofs.Advancing.{left-splits, left-head, right-splits, right-head, heads-first, left_closed, right_closed}
 use mathlib.Core.List.{List, [], ◌∷◌, ◌++◌}
-use Rattle.rows.specs.Rows.{Kept}
 use Rattle.rows.proofs.Places.{kept_same, kept_then, kept_less}
 use Rattle.expression.proofs.Meeting.{meet-nothing}
 use Rattle.program.specs.Bytes.{put32, put_span}
@@ -25,6 +26,13 @@ use Rattle.text.proofs.Written.{both, same, count}
 use Rattle.expression.proofs.Heads.{both-brackets, both_brackets_long}
 use Rattle.expression.proofs.walk.+advance_meet_put_heads.Goals as goal
 use Rattle.expression.proofs.walk.+advance_meet_put_heads.Goals.{put_heads-then-b-step-eq7+else-b-step-eq7-2, put_heads-else-b-step-eq7}
+
+-- The place behind the first term at a place that is not a close.
+behind : (b : List ℕ) (i : ℕ) (p : TermsAt Mode.pattern (drop i b)) → (get_or b i 0 ≡ 15 → ⊥) → (n : ℕ) → ((x : TermsAt Mode.pattern (part b i)) → Passes (part b i) n (put_terms (tail x.terms) x.rest)) → Next b i (i + n)
+behind b i p m n d = next_place b i n p (term-within b i p (λ e. m (sym (mark_in b i) ∙ e)) n (d (at_part b i p))) (d (at_part b i p))
+
+heads-inside : (b : List ℕ) (i j : ℕ) {swapped : Bool} {at : ℕ} → Heads (drop i b) (drop j b) swapped at → (i + 9 < length b) × (j + 9 < length b)
+heads-inside b i j x = (head_inside b i x.first, head_inside b j x.second)
 
 one_less : (f : ℕ) → 0 < f → f ≡ suc (f - 1)
 one_less f h = omega arith
@@ -42,15 +50,7 @@ pub advance-term_len-requires : goal.advance-term_len-requires
 advance-term_len-requires t c = result-at (at_part c.args.b.now c.args.step.left c.requires.0.first)
 
 pub advance-overflow_add-i : goal.advance-overflow_add-i
-advance-overflow_add-i t c =
-    let both : (c.args.step.left + c.term_len.result ≤ length c.args.b.now) × (0 < c.term_len.result) = let b = c.args.b.now in
-    let x = at_part b c.args.step.left c.requires.0.first in
-    let f = next_fits b c.args.step.left x (λ e. c.requires.1 (sym (mark_in b c.args.step.left) ∙ e)) (omega (arith, inside b c.args.step.left c.requires.0.first)) c.term_len.result (c.term_len.ensures Mode.pattern x) in
-    (f.0, f.1) in
-    omega (
-      arith,
-      both.0,
-    )
+advance-overflow_add-i t c = omega (arith, (behind c.args.b.now c.args.step.left c.requires.0.first c.requires.1 c.term_len.result (c.term_len.ensures Mode.pattern)).within)
 
 pub advance-slice_bounds-term_len-count-2 : goal.advance-slice_bounds-term_len-count-2
 advance-slice_bounds-term_len-count-2 t c = omega (arith, inside c.args.b.now c.args.step.right c.requires.0.second)
@@ -65,26 +65,13 @@ pub advance-term_len-requires-2 : goal.advance-term_len-requires-2
 advance-term_len-requires-2 t c = result-at (at_part c.args.b.now c.args.step.right c.requires.0.second)
 
 pub advance-overflow_add-j : goal.advance-overflow_add-j
-advance-overflow_add-j t c =
-    let both : (c.args.step.right + c.term_len-2.result ≤ length c.args.b.now) × (0 < c.term_len-2.result) = let b = c.args.b.now in
-    let x = at_part b c.args.step.right c.requires.0.second in
-    let f = next_fits b c.args.step.right x (λ e. c.requires.2 (sym (mark_in b c.args.step.right) ∙ e)) (omega (arith, inside b c.args.step.right c.requires.0.second)) c.term_len-2.result (c.term_len-2.ensures Mode.pattern x) in
-    (f.0, f.1) in
-    omega (
-      arith,
-      both.0,
-    )
+advance-overflow_add-j t c = omega (arith, (behind c.args.b.now c.args.step.right c.requires.0.second c.requires.2 c.term_len-2.result (c.term_len-2.ensures Mode.pattern)).within)
 
 pub advance-bounds-b-step : goal.advance-bounds-b-step
 advance-bounds-b-step t c = omega (arith, inside c.args.b.now c.args.step.left c.requires.0.first)
 
 pub advance-absorb-requires : goal.advance-absorb-requires
 advance-absorb-requires t c =
-    let both : (c.args.step.left + c.term_len.result ≤ length c.args.b.now) × (0 < c.term_len.result) = let b = c.args.b.now in
-    let x = at_part b c.args.step.left c.requires.0.first in
-    let f = next_fits b c.args.step.left x (λ e. c.requires.1 (sym (mark_in b c.args.step.left) ∙ e)) (omega (arith, inside b c.args.step.left c.requires.0.first)) c.term_len.result (c.term_len.ensures Mode.pattern x) in
-    (f.0, f.1) in
-    let next : Next c.args.b.now c.args.step.left (c.args.step.left + c.term_len.result) = next_place c.args.b.now c.args.step.left c.term_len.result c.requires.0.first both.0 (c.term_len.ensures Mode.pattern (at_part c.args.b.now c.args.step.left c.requires.0.first)) in
     let b = c.args.b.now in
     let p = c.requires in
     let x = p.0.first in (
@@ -95,7 +82,7 @@ advance-absorb-requires t c =
       },
       p.3,
       omega (arith, p.4),
-      ahead-first b c.args.room.now c.args.step.ends.next c.args.step.ends.known c.args.step.fuel c.args.step.left c.args.step.right _ p.5 c.if-b-step-eq6.true next,
+      ahead-first b c.args.room.now c.args.step.ends.next c.args.step.ends.known c.args.step.fuel c.args.step.left c.args.step.right _ p.5 c.if-b-step-eq6.true (behind b c.args.step.left x p.1 c.term_len.result (c.term_len.ensures Mode.pattern)),
       p.6,
     )
 
@@ -113,11 +100,6 @@ advance-bounds-b-step-2 t c = omega (arith, inside c.args.b.now c.args.step.righ
 
 pub advance-absorb-requires-then-b-step-eq6-2 : goal.advance-absorb-requires-then-b-step-eq6-2
 advance-absorb-requires-then-b-step-eq6-2 t c =
-    let both : (c.args.step.right + c.term_len-2.result ≤ length c.args.b.now) × (0 < c.term_len-2.result) = let b = c.args.b.now in
-    let x = at_part b c.args.step.right c.requires.0.second in
-    let f = next_fits b c.args.step.right x (λ e. c.requires.2 (sym (mark_in b c.args.step.right) ∙ e)) (omega (arith, inside b c.args.step.right c.requires.0.second)) c.term_len-2.result (c.term_len-2.ensures Mode.pattern x) in
-    (f.0, f.1) in
-    let next : Next c.args.b.now c.args.step.right (c.args.step.right + c.term_len-2.result) = next_place c.args.b.now c.args.step.right c.term_len-2.result c.requires.0.second both.0 (c.term_len-2.ensures Mode.pattern (at_part c.args.b.now c.args.step.right c.requires.0.second)) in
     let b = c.args.b.now in
     let p = c.requires in
     let y = p.0.second in (
@@ -128,7 +110,7 @@ advance-absorb-requires-then-b-step-eq6-2 t c =
       },
       p.3,
       omega (arith, p.4),
-      ahead-second b c.args.room.now c.args.step.ends.next c.args.step.ends.known c.args.step.fuel c.args.step.left c.args.step.right _ p.5 c.if-b-step-eq6.false c.if-b-step-eq6-2.true next,
+      ahead-second b c.args.room.now c.args.step.ends.next c.args.step.ends.known c.args.step.fuel c.args.step.left c.args.step.right _ p.5 c.if-b-step-eq6.false c.if-b-step-eq6-2.true (behind b c.args.step.right y p.2 c.term_len-2.result (c.term_len-2.ensures Mode.pattern)),
       p.6,
     )
 
@@ -163,34 +145,27 @@ advance-put_heads-requires t c =
 
 pub advance-returns : goal.advance-returns
 advance-returns t c =
-    let both : (c.args.step.left + c.term_len.result ≤ length c.args.b.now) × (0 < c.term_len.result) = let b = c.args.b.now in
-    let x = at_part b c.args.step.left c.requires.0.first in
-    let f = next_fits b c.args.step.left x (λ e. c.requires.1 (sym (mark_in b c.args.step.left) ∙ e)) (omega (arith, inside b c.args.step.left c.requires.0.first)) c.term_len.result (c.term_len.ensures Mode.pattern x) in
-    (f.0, f.1) in
-    let next : Next c.args.b.now c.args.step.left (c.args.step.left + c.term_len.result) = next_place c.args.b.now c.args.step.left c.term_len.result c.requires.0.first both.0 (c.term_len.ensures Mode.pattern (at_part c.args.b.now c.args.step.left c.requires.0.first)) in
-    let both_2 : (c.args.step.right + c.term_len-2.result ≤ length c.args.b.now) × (0 < c.term_len-2.result) = let b = c.args.b.now in
-    let x = at_part b c.args.step.right c.requires.0.second in
-    let f = next_fits b c.args.step.right x (λ e. c.requires.2 (sym (mark_in b c.args.step.right) ∙ e)) (omega (arith, inside b c.args.step.right c.requires.0.second)) c.term_len-2.result (c.term_len-2.ensures Mode.pattern x) in
-    (f.0, f.1) in
-    let the_next : Next c.args.b.now c.args.step.right (c.args.step.right + c.term_len-2.result) = next_place c.args.b.now c.args.step.right c.term_len-2.result c.requires.0.second both_2.0 (c.term_len-2.ensures Mode.pattern (at_part c.args.b.now c.args.step.right c.requires.0.second)) in
+    let b = c.args.b.now in
+    let s = c.args.step in
+    let p = c.requires in
+    let k = c.term_len in
+    let l = c.term_len-2 in
     record {
       steps = λ x y.
-          let b = c.args.b.now in
-          let p = c.requires in
-          let u = left-head b c.args.step.left c.args.step.right c.args.step.swapped c.args.step.fuel x y p.1 c.if-b-step-eq6.false in
-          let v = right-head b c.args.step.left c.args.step.right c.args.step.swapped c.args.step.fuel x y p.1 c.if-b-step-eq6.false p.2 c.if-b-step-eq6-2.false in
+          let u = left-head b s.left s.right s.swapped s.fuel x y p.1 c.if-b-step-eq6.false in
+          let v = right-head b s.left s.right s.swapped s.fuel x y p.1 c.if-b-step-eq6.false p.2 c.if-b-step-eq6-2.false in
           record {
-            text = head_bytes c.args.step.swapped u.head v.head;
+            text = head_bytes s.swapped u.head v.head;
             wrote = c.put_heads.ensures.writes u v;
-            first = after_term b c.args.step.left c.term_len.result x (c.term_len.ensures Mode.pattern (at_part b c.args.step.left x));
-            second = after_term b c.args.step.right c.term_len-2.result y (c.term_len-2.ensures Mode.pattern (at_part b c.args.step.right y));
-            is = heads-first b c.args.step.left c.args.step.right c.args.step.swapped c.args.step.fuel x y p.1 c.if-b-step-eq6.false p.2 c.if-b-step-eq6-2.false;
+            first = after_term b s.left k.result x (k.ensures Mode.pattern (at_part b s.left x));
+            second = after_term b s.right l.result y (l.ensures Mode.pattern (at_part b s.right y));
+            is = heads-first b s.left s.right s.swapped s.fuel x y p.1 c.if-b-step-eq6.false p.2 c.if-b-step-eq6-2.false;
             further = omega arith;
             less = omega arith;
           };
       keeps = (
         record {
-          way = way_at_heads c.args.step.fuel c.requires.5 refl c.if-b-step-eq6.false c.if-b-step-eq6-2.false next the_next;
+          way = way_at_heads s.fuel p.5 refl c.if-b-step-eq6.false c.if-b-step-eq6-2.false (behind b s.left p.0.first p.1 k.result (k.ensures Mode.pattern)) (behind b s.right p.0.second p.2 l.result (l.ensures Mode.pattern));
           is = refl;
         },
         c.put_heads.ensures.keeps,
@@ -210,44 +185,36 @@ meet-loop-s-init t c = (
 )
 
 pub meet-bounds-b-s : goal.meet-bounds-b-s
-meet-bounds-b-s t c = inside c.args.b.now c.loop-s.s.left ((c.loop-s.invariant.4 c.requires.0.first c.requires.0.second)).first
+meet-bounds-b-s t c = inside c.args.b.now c.loop-s.s.left (c.loop-s.invariant.4 c.requires.0.first c.requires.0.second).first
 
 pub meet-shape_of-room-then-b-s-eq15 : goal.meet-shape_of-room-then-b-s-eq15
-meet-shape_of-room-then-b-s-eq15 t c =
-    let kept : Kept c.args.start.ends.next c.args.room.now c.loop-s.room = kept_then c.find_way-known.ensures.keeps c.loop-s.invariant.0 in
-    (kept).length
+meet-shape_of-room-then-b-s-eq15 t c = (kept_then c.find_way-known.ensures.keeps c.loop-s.invariant.0).length
 
 pub meet-returns-then-b-s-eq15 : goal.meet-returns-then-b-s-eq15
-meet-returns-then-b-s-eq15 t c =
-    let kept : Kept c.args.start.ends.next c.args.room.now c.loop-s.room = kept_then c.find_way-known.ensures.keeps c.loop-s.invariant.0 in
-    record {
-      writes = λ p q.
-          let s = c.loop-s.invariant.4 p q in
-          let e = one_less c.loop-s.s.fuel c.loop-s-test.true in
-          whole-written c.args.out.now s.text s.wrote s.is
-          (ap (λ (k : ℕ). meet_bytes c.loop-s.s.swapped k s.first.terms s.second.terms) e ∙ left_closed c.args.b.now c.loop-s.s.left c.loop-s.s.right c.loop-s.s.swapped (c.loop-s.s.fuel - 1) s.first s.second c.if-b-s-eq15.true);
-      keeps = kept;
-    }
+meet-returns-then-b-s-eq15 t c = record {
+  writes = λ p q.
+      let s = c.loop-s.invariant.4 p q in
+      let e = one_less c.loop-s.s.fuel c.loop-s-test.true in
+      whole-written c.args.out.now s.text s.wrote s.is
+      (ap (λ (k : ℕ). meet_bytes c.loop-s.s.swapped k s.first.terms s.second.terms) e ∙ left_closed c.args.b.now c.loop-s.s.left c.loop-s.s.right c.loop-s.s.swapped (c.loop-s.s.fuel - 1) s.first s.second c.if-b-s-eq15.true);
+  keeps = kept_then c.find_way-known.ensures.keeps c.loop-s.invariant.0;
+}
 
 pub meet-bounds-b-s-in-loop-s : goal.meet-bounds-b-s-in-loop-s
-meet-bounds-b-s-in-loop-s t c = inside c.args.b.now c.loop-s.s.right ((c.loop-s.invariant.4 c.requires.0.first c.requires.0.second)).second
+meet-bounds-b-s-in-loop-s t c = inside c.args.b.now c.loop-s.s.right (c.loop-s.invariant.4 c.requires.0.first c.requires.0.second).second
 
 pub meet-shape_of-room-then-b-s-eq15-2 : goal.meet-shape_of-room-then-b-s-eq15-2
-meet-shape_of-room-then-b-s-eq15-2 t c =
-    let kept : Kept c.args.start.ends.next c.args.room.now c.loop-s.room = kept_then c.find_way-known.ensures.keeps c.loop-s.invariant.0 in
-    (kept).length
+meet-shape_of-room-then-b-s-eq15-2 t c = (kept_then c.find_way-known.ensures.keeps c.loop-s.invariant.0).length
 
 pub meet-returns-then-b-s-eq15-2 : goal.meet-returns-then-b-s-eq15-2
-meet-returns-then-b-s-eq15-2 t c =
-    let kept : Kept c.args.start.ends.next c.args.room.now c.loop-s.room = kept_then c.find_way-known.ensures.keeps c.loop-s.invariant.0 in
-    record {
-      writes = λ p q.
-          let s = c.loop-s.invariant.4 p q in
-          let e = one_less c.loop-s.s.fuel c.loop-s-test.true in
-          whole-written c.args.out.now s.text s.wrote s.is
-          (ap (λ (k : ℕ). meet_bytes c.loop-s.s.swapped k s.first.terms s.second.terms) e ∙ right_closed c.args.b.now c.loop-s.s.left c.loop-s.s.right c.loop-s.s.swapped (c.loop-s.s.fuel - 1) s.first s.second c.if-b-s-eq15-2.true);
-      keeps = kept;
-    }
+meet-returns-then-b-s-eq15-2 t c = record {
+  writes = λ p q.
+      let s = c.loop-s.invariant.4 p q in
+      let e = one_less c.loop-s.s.fuel c.loop-s-test.true in
+      whole-written c.args.out.now s.text s.wrote s.is
+      (ap (λ (k : ℕ). meet_bytes c.loop-s.s.swapped k s.first.terms s.second.terms) e ∙ right_closed c.args.b.now c.loop-s.s.left c.loop-s.s.right c.loop-s.s.swapped (c.loop-s.s.fuel - 1) s.first s.second c.if-b-s-eq15-2.true);
+  keeps = kept_then c.find_way-known.ensures.keeps c.loop-s.invariant.0;
+}
 
 pub meet-overflow_sub-s : goal.meet-overflow_sub-s
 meet-overflow_sub-s t c = omega (arith, c.loop-s-test.true)
@@ -256,7 +223,7 @@ pub meet-advance-s-requires : goal.meet-advance-s-requires
 meet-advance-s-requires t c =
     let b = c.args.b.now in
     let p = c.requires in
-    let s = (c.loop-s.invariant.4 c.requires.0.first c.requires.0.second) in
+    let s = c.loop-s.invariant.4 c.requires.0.first c.requires.0.second in
     let e = one_less c.loop-s.s.fuel c.loop-s-test.true in (
       omega (arith, c.decreases, s.further, inside b c.loop-s.s.left s.first, inside b c.loop-s.s.right s.second, inside b c.args.start.left p.0.first, inside b c.args.start.right p.0.second),
       (record { first = s.first; second = s.second; short = stepped_short s e p.0.short }, c.if-b-s-eq15.false, c.if-b-s-eq15-2.false, p.1, omega (arith, s.less, p.2, c.loop-s-test.true), subst (λ (k : ℕ). Way b (in_turn c.loop-s.room c.loop-s.s.ends.next c.loop-s.s.ends.known []) k c.loop-s.s.left c.loop-s.s.right) e c.loop-s.invariant.1, c.loop-s.invariant.2),
@@ -264,7 +231,7 @@ meet-advance-s-requires t c =
 
 pub meet-loop-s-smaller : goal.meet-loop-s-smaller
 meet-loop-s-smaller t c =
-    let s = (c.loop-s.invariant.4 c.requires.0.first c.requires.0.second) in
+    let s = c.loop-s.invariant.4 c.requires.0.first c.requires.0.second in
     omega (arith, (c.advance-s.ensures.steps s.first s.second).less, c.loop-s-test.true)
 
 pub meet-loop-s-preserved : goal.meet-loop-s-preserved
@@ -279,20 +246,16 @@ meet-loop-s-preserved t c =
     )
 
 pub meet-shape_of-room : goal.meet-shape_of-room
-meet-shape_of-room t c =
-    let kept : Kept c.args.start.ends.next c.args.room.now c.loop-s.room = kept_then c.find_way-known.ensures.keeps c.loop-s.invariant.0 in
-    (kept).length
+meet-shape_of-room t c = (kept_then c.find_way-known.ensures.keeps c.loop-s.invariant.0).length
 
 pub meet-returns : goal.meet-returns
-meet-returns t c =
-    let kept : Kept c.args.start.ends.next c.args.room.now c.loop-s.room = kept_then c.find_way-known.ensures.keeps c.loop-s.invariant.0 in
-    record {
-      writes = λ p q.
-          let s = c.loop-s.invariant.4 p q in
-          let z : c.loop-s.s.fuel ≡ 0 = omega (arith, c.loop-s-test.false) in
-          whole-written c.args.out.now s.text s.wrote s.is (ap (λ (k : ℕ). meet_bytes c.loop-s.s.swapped k s.first.terms s.second.terms) z ∙ meet-nothing c.loop-s.s.swapped s.first.terms s.second.terms);
-      keeps = kept;
-    }
+meet-returns t c = record {
+  writes = λ p q.
+      let s = c.loop-s.invariant.4 p q in
+      let z : c.loop-s.s.fuel ≡ 0 = omega (arith, c.loop-s-test.false) in
+      whole-written c.args.out.now s.text s.wrote s.is (ap (λ (k : ℕ). meet_bytes c.loop-s.s.swapped k s.first.terms s.second.terms) z ∙ meet-nothing c.loop-s.s.swapped s.first.terms s.second.terms);
+  keeps = kept_then c.find_way-known.ensures.keeps c.loop-s.invariant.0;
+}
 
 pub put_heads-bounds-b-step : goal.put_heads-bounds-b-step
 put_heads-bounds-b-step t c = omega (arith, head_inside c.args.b.now c.args.step.left c.requires.0.first)
@@ -307,16 +270,16 @@ put_heads-put_mark-requires t c =
     omega (arith, both_brackets_long c.args.step.swapped p.first p.second (bracket-at p.first (mark-at b c.args.step.left ∙ c.if-b-step-eq7.true)) (bracket-at p.second (mark-at b c.args.step.right ∙ c.if-b-step-eq7-2.true)), p.short)
 
 pub put_heads-overflow_add-inside-then-b-step-eq7-2 : goal.put_heads-overflow_add-inside-then-b-step-eq7-2
-put_heads-overflow_add-inside-then-b-step-eq7-2 t c = omega (arith, head_inside c.args.b.now c.args.step.left c.requires.0.first, head_inside c.args.b.now c.args.step.right c.requires.0.second, c.requires.1, c.requires.2)
+put_heads-overflow_add-inside-then-b-step-eq7-2 t c = omega (arith, heads-inside c.args.b.now c.args.step.left c.args.step.right c.requires.0, c.requires.1, c.requires.2)
 
 pub put_heads-overflow_add-inside-then-b-step-eq7-2-2 : goal.put_heads-overflow_add-inside-then-b-step-eq7-2-2
-put_heads-overflow_add-inside-then-b-step-eq7-2-2 t c = omega (arith, head_inside c.args.b.now c.args.step.left c.requires.0.first, head_inside c.args.b.now c.args.step.right c.requires.0.second, c.requires.1, c.requires.2)
+put_heads-overflow_add-inside-then-b-step-eq7-2-2 t c = omega (arith, heads-inside c.args.b.now c.args.step.left c.args.step.right c.requires.0, c.requires.1, c.requires.2)
 
 pub put_heads-overflow_add-inside : goal.put_heads-overflow_add-inside
-put_heads-overflow_add-inside t c = omega (arith, head_inside c.args.b.now c.args.step.left c.requires.0.first, head_inside c.args.b.now c.args.step.right c.requires.0.second, c.requires.1, c.requires.2)
+put_heads-overflow_add-inside t c = omega (arith, heads-inside c.args.b.now c.args.step.left c.args.step.right c.requires.0, c.requires.1, c.requires.2)
 
 pub put_heads-overflow_mul-inside : goal.put_heads-overflow_mul-inside
-put_heads-overflow_mul-inside t c = omega (arith, head_inside c.args.b.now c.args.step.left c.requires.0.first, head_inside c.args.b.now c.args.step.right c.requires.0.second, c.requires.1, c.requires.2)
+put_heads-overflow_mul-inside t c = omega (arith, heads-inside c.args.b.now c.args.step.left c.args.step.right c.requires.0, c.requires.1, c.requires.2)
 
 pub put_heads-meet-requires : goal.put_heads-meet-requires
 unfolding put_span put32

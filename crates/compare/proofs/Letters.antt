@@ -120,9 +120,6 @@ module _ (s : List ℕ) where
   name-size h = length-take-le (get_or s 9 0) (drop 10 s) (omega (arith, h, length-drop 10 s))
 
   -- The letters of a variable.
-  pub variable_point : (k : ℕ) → k ≡ 1 → 46 ≡ get_or (kind_letter (get_or s 0 0) ∷ 46 ∷ token_name s) k 0
-  variable_point k z = place {l = kind_letter (get_or s 0 0) ∷ 46 ∷ token_name s} 1 k refl z
-
   pub variable_name_letter : (k : ℕ) → (k ≡ 0 → ⊥) → (k ≡ 1 → ⊥) → k < 2 + get_or s 9 0 → get_or s (8 + k) 0 ≡ get_or (kind_letter (get_or s 0 0) ∷ 46 ∷ token_name s) k 0
   variable_name_letter k a b h =
       let z : k ≡ suc (suc (k - 2)) = omega (arith, a, b) in

@@ -1,5 +1,5 @@
 -- Terms token by token: the letters of the tokens, one after another, are the text of the terms.
-use Prim.Native.Nat.{ℕ, zero, suc, ◌+◌, ◌-◌, ◌<◌, ◌≤◌}
+use Prim.Native.Nat.{ℕ, suc, ◌+◌, ◌-◌, ◌<◌, ◌≤◌}
 use native.Mathlib.Omega.{arith}
 use native.Mathlib.Nat.{add-zero}
 use mathlib.Core.Path.{◌≡◌, refl, sym, ap, subst, ◌∙◌}
@@ -18,7 +18,7 @@ use Rattle.patterns.specs.Ascii.{ascii}
 use Rattle.meaning.specs.Text.{Text, format_symbol, format_kind, gap, format_terms}
 use Rattle.text.specs.FormatTerm.{gap_before, kind_letter}
 use Rattle.text.specs.Parts.{VariableAt}
-use Rattle.compare.specs.Letters.{token_name, token_text, token_gap, letters, TokenIn}
+use Rattle.compare.specs.Letters.{token_name, token_text, token_gap, letters, TokenIn, Walk}
 use Rattle.text.proofs.Leaves.{CodeIn, code_in, variable-text}
 use Rattle.compare.proofs.Letters.{length-code, length-name, length_begin, length-close, text-code, text-name, text-variable, text_begin, text-close, gap_begin, gap_not_begin, letters_are, token-long, character-length}
 use Rattle.text.proofs.Formatting.{gap_in}
@@ -127,21 +127,10 @@ close_piece k l =
       some = omega arith;
     }
 
--- The texts are the letters of the tokens from the start of s on; the last close stands behind them, and then rest.
-abbrev pub Walk : List Text → List ℕ → List ℕ → Type 0
-Walk [] s rest = s ≡ 15 ∷ rest
-Walk (x ∷ ls) s rest = TokenIn s × (x ≡ letters s) × (0 < length x) × Walk ls (drop (token_length s) s) rest
-
--- With c closes to come, n tokens from the start of s on lead to the last close; a close among them is not the last.
-abbrev pub Closing : ℕ → ℕ → List ℕ → Type 0
-Closing zero c s = c ≡ 1
-Closing (suc n) c s = (get_or s 0 0 ≡ 15 → 1 < c) × Closing n (closes_after (get_or s 0 0) c) (drop (token_length s) s)
-
 pub record Walked (c : ℕ) (s rest : List ℕ) (w : Text) : Type 0 where
   pub texts : List Text
-  pub walk : Walk texts s rest
+  pub walk : Walk c texts s rest
   pub text : flatten texts ≡ w
-  pub closing : Closing (length texts) c s
 
 closes_flat : (m c : ℕ) → m < 7 → closes_after m c ≡ c
 unfolding closes_after
@@ -155,9 +144,9 @@ closes_close : (c : ℕ) → closes_after 15 (c + 1) ≡ c
 unfolding closes_after
 closes_close c = let e : c + 1 - 1 ≡ c = omega arith in e
 
-pub walk_long : (ls : List Text) (s rest : List ℕ) → Walk ls s rest → length ls + suc (length rest) ≤ length s
-walk_long [] s rest h = omega (arith, ap length h)
-walk_long (x ∷ ls) s rest h = omega (arith, walk_long ls (drop (token_length s) s) rest h.3, length-drop (token_length s) s, h.0.within, token-long h.0)
+pub walk_long : (c : ℕ) (ls : List Text) (s rest : List ℕ) → Walk c ls s rest → length ls + suc (length rest) ≤ length s
+walk_long c [] s rest h = omega (arith, ap length h.0)
+walk_long c (x ∷ ls) s rest h = omega (arith, walk_long (closes_after (get_or s 0 0) c) ls (drop (token_length s) s) rest h.4, length-drop (token_length s) s, h.0.within, token-long h.0)
 
 -- One more token in front.
 module _ {c d : ℕ} {s k rest : List ℕ} {w v : Text} (p : Piece s k w) (h : Walked d k rest v) (inner : get_or s 0 0 ≡ 15 → 1 < c) (after : closes_after (get_or s 0 0) c ≡ d) where
@@ -167,9 +156,8 @@ module _ {c d : ℕ} {s k rest : List ℕ} {w v : Text} (p : Piece s k w) (h : W
       let z : w ++ g ≡ letters s = sym (ap (λ (l : Text). l ++ g) p.text) ∙ (sym (ap (λ (l : Text). token_text s ++ l) e) ∙ letters_are s) in
       record {
         texts = (w ++ g) ∷ h.texts;
-        walk = (p.token, z, omega (arith, length-append w g, p.some), subst (λ (l : List ℕ). Walk h.texts l rest) (sym p.past) h.walk);
+        walk = (p.token, z, omega (arith, length-append w g, p.some), inner, subst (λ (n : ℕ). Walk n h.texts (drop (token_length s) s) rest) (sym after) (subst (λ (l : List ℕ). Walk d h.texts l rest) (sym p.past) h.walk));
         text = ap (λ (l : Text). (w ++ g) ++ l) h.text;
-        closing = (inner, subst (λ (n : ℕ). Closing (length h.texts) n (drop (token_length s) s)) (sym after) (subst (Closing (length h.texts) d) (sym p.past) h.closing));
       }
 
   -- The space behind a token that begins no bracket.
@@ -182,7 +170,7 @@ module _ {c d : ℕ} {s k rest : List ℕ} {w v : Text} (p : Piece s k w) (h : W
   walked_begin m = subst (λ (l : Text). Walked c s rest (l ++ v)) (append-nil w) (walked_more [] (gap_begin s m))
 
 walked_same : {c : ℕ} {s rest : List ℕ} {w v : Text} → w ≡ v → Walked c s rest w → Walked c s rest v
-walked_same e h = record { texts = h.texts; walk = h.walk; text = h.text ∙ e; closing = h.closing }
+walked_same e h = record { texts = h.texts; walk = h.walk; text = h.text ∙ e }
 
 rejoin : (a b c d : Text) → (a ++ b) ++ (c ++ d) ≡ (a ++ (b ++ c)) ++ d
 rejoin a b c d = sym (append_assoc (a ++ b) c d) ∙ ap (λ (l : Text). l ++ d) (append_assoc a b c)
@@ -235,4 +223,4 @@ unfolding flatten
 walk_all {s} t =
     subst (λ (l : List ℕ). Walked 1 l t.rest (format_terms t.terms)) (sym t.is)
     (walked_same (append-nil (format_terms t.terms))
-    (walk_terms t.terms 0 1 t.rest t.rest [] (omega arith) t.valid (record { texts = []; walk = refl; text = refl; closing = refl })))
+    (walk_terms t.terms 0 1 t.rest t.rest [] (omega arith) t.valid (record { texts = []; walk = (refl, refl); text = refl })))

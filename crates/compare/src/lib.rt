@@ -1,19 +1,20 @@
 // Whether two sequences of terms have the same text, letter by letter on the image's own bytes. An
-// identifier may be spelled as a variable is, so tokens are not compared. A code is a number with a bound, as the writing end has it.
+// identifier may be spelled as a variable is, so tokens that differ may print the same. A code is a number with a bound, as the
+// writing end has it.
 // Marks stay numbers, as in `image::part`.
 #![tactic(auto)]
 
 ghost use Rattle.std.specs.Prelude.{◌≡◌, true, cond, ◌&&◌, ◌∷◌, ◌+◌, ◌<◌, ◌≤◌, eqb, length, get_or};
 ghost use Rattle.program.specs.Syntax.{character};
 ghost use Rattle.program.specs.Limits.{Mode};
-ghost use Rattle.image.specs.Parts.{TermsAt, token_length};
+ghost use Rattle.image.specs.Parts.{TermsAt, token_length, closes_after};
 ghost use Rattle.patterns.specs.Names.{eq_bytes};
 ghost use Rattle.meaning.specs.Text.{utf8, format_symbol, format_terms};
 ghost use Rattle.text.specs.FormatTerm.{kind_letter};
-ghost use Rattle.compare.specs.Letters.{token_name, token_text, letters, TokenIn, part, is_last, StandsIn};
+ghost use Rattle.compare.specs.Letters.{token_name, token_text, letters, TokenIn, part, is_last, StandsIn, SameContent, SameLetters, DifferFrom};
 
 use image::number::read32;
-use image::part::{closes_after, terms_len, token_len};
+use image::part::{closes_after, token_len};
 use text::emit::{lead_of_four, lead_of_three, lead_of_two, trail};
 use text::terms::{kind_letter, quote_of};
 
@@ -108,17 +109,16 @@ impl<'a> Token<'a> {
         }
     }
 
-    // How many letters it has, a space behind it among them.
-    fn letters_len(self) -> usize
-        ensures { result ≡ length (letters self.entry.bytes.now) }
+    // Whether its letter k is the last, of n by itself and the space behind them.
+    fn is_last(self, k: usize, n: usize) -> bool
+        requires { (k < length (letters self.bytes.now)) × (n ≡ length (token_text self.bytes.now)) }
+        ensures { result ≡ eqb (k + 1) (length (letters self.entry.bytes.now)) }
     {
-        let x = self.bytes;
-        let n = self.text_len();
-        if x[0] == 7 || x[token_len(x)] == 15 {
-            n
-        } else {
-            n + 1
+        if k + 1 != n {
+            return n <= k;
         }
+        let x = self.bytes;
+        x[0] == 7 || x[token_len(x)] == 15
     }
 
     // Its letter k by itself.
@@ -136,145 +136,143 @@ impl<'a> Token<'a> {
         }
     }
 
-    // Its letter k, or the space behind it.
-    fn letter(self, k: usize) -> u8
-        requires { k < length (letters self.bytes.now) }
+    // Its letter k, or the space behind the n that it has by itself.
+    fn letter(self, k: usize, n: usize) -> u8
+        requires { (k < length (letters self.bytes.now)) × (n ≡ length (token_text self.bytes.now)) }
         ensures { result ≡ get_or (letters self.entry.bytes.now) k 0 }
     {
-        if k < self.text_len() {
-            self.text_letter(k)
-        } else {
-            b' '
-        }
+        if k < n { self.text_letter(k) } else { b' ' }
     }
 
-    // Whether another of its mark holds the same: then they print the same by themselves.
-    fn same_content(self, other: Token) -> bool
+    // Its length, if another of its mark holds the same: then both are as long, and print the same by themselves.
+    fn same_content(self, other: Token) -> Option<usize>
         requires { get_or self.bytes.now 0 0 ≡ get_or other.bytes.now 0 0 }
-        ensures { result ≡ true → (token_text self.entry.bytes.now ≡ token_text other.entry.bytes.now) × (token_length self.entry.bytes.now ≡ token_length other.entry.bytes.now) }
+        ensures { SameContent self.entry.bytes.now other.entry.bytes.now result }
     {
         let x = self.bytes;
         let y = other.bytes;
         match x[0] {
-            1 => read32(x, 9) == read32(y, 9),
-            ..=6 => token_name(x) == token_name(y),
-            _ => true,
+            7.. => Some(token_len(x)),
+            1 => (read32(x, 9) == read32(y, 9)).then_some(token_len(x)),
+            _ => (token_name(x) == token_name(y)).then_some(token_len(x)),
         }
     }
 
-    // The same, with the space behind them. In steps, since the last test reads the other behind its end, as only the first allows.
-    fn same_letters(self, other: Token) -> bool
+    // The same, if the same mark stands behind both, and so a space behind both or neither.
+    fn same_letters(self, other: Token) -> Option<usize>
         requires { get_or self.bytes.now 0 0 ≡ get_or other.bytes.now 0 0 }
-        ensures { result ≡ true → (letters self.entry.bytes.now ≡ letters other.entry.bytes.now) × (token_length self.entry.bytes.now ≡ token_length other.entry.bytes.now) }
+        ensures { SameLetters self.entry.bytes.now other.entry.bytes.now result }
     {
-        if !self.same_content(other) {
-            return false;
-        }
-        let x = self.bytes;
-        let y = other.bytes;
-        if x[0] == 7 {
-            return true;
-        }
-        let k = token_len(x);
-        (x[k] == 15) == (y[k] == 15)
+        let n = self.same_content(other)?;
+        (self.bytes[n] == other.bytes[n]).then_some(n)
     }
 }
 
-// Where a letter stands: the nth of the token at `token`.
+// Where a letter stands: the nth of the token at `token`, with so many closes to come from that token on.
 #[derive(Clone, Copy)]
 struct LetterAt {
     token: usize,
     nth: usize,
+    closes: usize,
 }
 
 impl LetterAt {
-    fn read(self, s: &[u8]) -> u8
-        requires { StandsIn s.now self.token self.nth }
-        ensures { result ≡ get_or (letters (part s.now self.token)) self.nth 0 }
+    // Whether the last close stands there, behind the last letter.
+    fn is_end(self, s: &[u8]) -> bool
+        requires { self.token < length s.now }
+        ensures { result ≡ (eqb (get_or (part s.now self.token) 0 0) 15 && eqb self.closes 1) }
     {
-        let x = Token {
-            bytes: &s[self.token..],
-        };
-        x.letter(self.nth)
+        s[self.token] == 15 && self.closes == 1
     }
 
-    // The one behind it: the next of the token, or the first of the token behind.
-    fn next(self, s: &[u8]) -> LetterAt
-        requires { StandsIn s.now self.token self.nth }
-        ensures token { result.token ≡ self.token + cond (is_last s.now self.token self.nth) (token_length (part s.now self.token)) 0 }
-        ensures nth { result.nth ≡ cond (is_last s.now self.token self.nth) 0 (self.nth + 1) }
+    // The place behind it, where the token x has n letters by itself: the next letter, or the first of the token behind.
+    fn behind(self, x: Token, n: usize) -> LetterAt
+        requires { (self.nth < length (letters x.bytes.now)) × (n ≡ length (token_text x.bytes.now)) × (0 < self.closes) × (self.closes < 18446744073709551615) × (self.token + token_length x.bytes.now < 18446744073709551616) }
+        ensures token { result.token ≡ self.token + cond (eqb (self.nth + 1) (length (letters x.entry.bytes.now))) (token_length x.entry.bytes.now) 0 }
+        ensures nth { result.nth ≡ cond (eqb (self.nth + 1) (length (letters x.entry.bytes.now))) 0 (self.nth + 1) }
+        ensures closes { result.closes ≡ cond (eqb (self.nth + 1) (length (letters x.entry.bytes.now))) (closes_after (get_or x.entry.bytes.now 0 0) self.closes) self.closes }
     {
-        let x = Token {
-            bytes: &s[self.token..],
-        };
-        if self.nth + 1 == x.letters_len() {
+        if x.is_last(self.nth, n) {
             LetterAt {
                 token: self.token + token_len(x.bytes),
                 nth: 0,
+                closes: closes_after(x.bytes[0], self.closes),
             }
         } else {
             LetterAt {
-                token: self.token,
                 nth: self.nth + 1,
+                ..self
             }
         }
     }
-}
 
-// Whether the mark m is the last of so many closes.
-fn is_end(m: u8, closes: usize) -> bool
-    ensures { result ≡ (eqb m 15 && eqb closes 1) }
-{
-    m == 15 && closes == 1
-}
-
-// Whether two sequences of terms have the same tokens, whatever their spans: most texts that are the same are so told, token by
-// token and up to the first that differs.
-fn same_tokens(a: &[u8], b: &[u8]) -> bool
-    requires { TermsAt Mode.pattern a.now × TermsAt Mode.pattern b.now }
-    ensures { (t : TermsAt Mode.pattern a.now) (u : TermsAt Mode.pattern b.now) → result ≡ true → eq_bytes (format_terms t.terms) (format_terms u.terms) ≡ true }
-{
-    let mut i: usize = 0;
-    let mut closes: usize = 1;
-    loop {
-        let x = &a[i..];
-        let y = &b[i..];
-        let m = x[0];
-        if m != y[0] {
-            return false;
-        }
-        if is_end(m, closes) {
-            return true;
-        }
-        if !(Token { bytes: x }).same_letters(Token { bytes: y }) {
-            return false;
-        }
-        closes = closes_after(m, closes);
-        i += token_len(x);
+    // The letter there; the place goes on to the one behind it.
+    fn next(&mut self, s: &[u8]) -> u8
+        requires { StandsIn s.now self.old.token self.old.nth × (0 < self.old.closes) × (self.old.closes ≤ length s.now) }
+        ensures letter { result ≡ get_or (letters (part s.now self.old.token)) self.old.nth 0 }
+        ensures token { self.new.token ≡ self.old.token + cond (is_last s.now self.old.token self.old.nth) (token_length (part s.now self.old.token)) 0 }
+        ensures nth { self.new.nth ≡ cond (is_last s.now self.old.token self.old.nth) 0 (self.old.nth + 1) }
+        ensures closes { self.new.closes ≡ cond (is_last s.now self.old.token self.old.nth) (closes_after (get_or (part s.now self.old.token) 0 0) self.old.closes) self.old.closes }
+    {
+        let x = Token {
+            bytes: &s[self.token..],
+        };
+        let n = x.text_len();
+        let letter = x.letter(self.nth, n);
+        *self = self.behind(x, n);
+        letter
     }
 }
 
-// Whether the terms at the start of a and those at the start of b have the same text.
+// The first token at which two sequences of terms may print otherwise, at the same place in both. `None` where they have the same tokens
+// throughout, whatever their spans, as most have whose texts are the same.
+fn first_difference(a: &[u8], b: &[u8]) -> Option<LetterAt>
+    requires { TermsAt Mode.pattern a.now × TermsAt Mode.pattern b.now }
+    ensures { (t : TermsAt Mode.pattern a.now) (u : TermsAt Mode.pattern b.now) → DifferFrom t u result }
+{
+    let mut at = LetterAt {
+        token: 0,
+        nth: 0,
+        closes: 1,
+    };
+    if a[0] != b[0] {
+        return Some(at);
+    }
+    loop {
+        let x = &a[at.token..];
+        let y = &b[at.token..];
+        let closes = closes_after(x[0], at.closes);
+        if closes == 0 {
+            return None;
+        }
+        let Some(n) = (Token { bytes: x }).same_letters(Token { bytes: y }) else {
+            return Some(at);
+        };
+        at = LetterAt {
+            token: at.token + n,
+            nth: 0,
+            closes,
+        };
+    }
+}
+
+// Whether the terms at the start of a and those at the start of b have the same text. Letters are compared from the first token that
+// differs on, since all before it are the same.
 pub fn same_text(a: &[u8], b: &[u8]) -> bool
     requires { TermsAt Mode.pattern a.now × TermsAt Mode.pattern b.now }
     ensures { (t : TermsAt Mode.pattern a.now) (u : TermsAt Mode.pattern b.now) → result ≡ eq_bytes (format_terms t.terms) (format_terms u.terms) }
 {
-    if same_tokens(a, b) {
+    let Some(mut one) = first_difference(a, b) else {
         return true;
-    }
-    let m = terms_len(a) - 1;
-    let n = terms_len(b) - 1;
-    let mut one = LetterAt { token: 0, nth: 0 };
-    let mut two = LetterAt { token: 0, nth: 0 };
-    while one.token < m {
-        if n <= two.token {
+    };
+    let mut two = one;
+    while !one.is_end(a) {
+        if two.is_end(b) {
             return false;
         }
-        if one.read(a) != two.read(b) {
+        if one.next(a) != two.next(b) {
             return false;
         }
-        one = one.next(a);
-        two = two.next(b);
     }
-    n <= two.token
+    two.is_end(b)
 }

@@ -1,50 +1,54 @@
 use native.Mathlib.Omega.{arith}
 use mathlib.Core.Path.{refl, sym}
-use Rattle.program.specs.Limits.{Mode}
-use Rattle.compare.proofs.Cursor.{last-close, gone, comparing_first, first_ends, second-ends, letters-differ, comparing-next, comparing-there, stands}
+use Rattle.compare.proofs.Same.{ended-both, not_ended, coming_within}
+use Rattle.compare.proofs.Cursor.{gone, comparing_from, first_ends, second-ends, letters-differ, comparing-next, comparing-there, stands}
 use Rattle.compare.proofs.same_text.Goals as goal
 
-pub overflow_sub-m : goal.overflow_sub-m
-overflow_sub-m c = (last-close c.requires.0 c.terms_len-m.result (c.terms_len-m.ensures Mode.pattern c.requires.0)).0
-
-pub overflow_sub-n : goal.overflow_sub-n
-overflow_sub-n c = (last-close c.requires.1 c.terms_len-n.result (c.terms_len-n.ensures Mode.pattern c.requires.1)).0
-
 pub loop-one-init : goal.loop-one-init
-loop-one-init c = λ t u. comparing_first t u c.terms_len-m.result c.terms_len-n.result (c.terms_len-m.ensures Mode.pattern t) (c.terms_len-n.ensures Mode.pattern u)
+loop-one-init c = λ t u. let h = c.in-Some.ensures t u in comparing_from h.0 h.1
 
-pub returns-then-n-two : goal.returns-then-n-two
-returns-then-n-two c = λ t u. sym (second-ends (c.loop-one.invariant t u) c.loop-one-test.true c.if-n-two.true)
+pub is_end-requires : goal.is_end-requires
+is_end-requires c = coming_within (c.loop-one.invariant c.requires.0 c.requires.1).one.from
 
-pub read-requires : goal.read-requires
-read-requires c = stands (c.loop-one.invariant c.requires.0 c.requires.1).one c.loop-one-test.true
+pub is_end-requires-in-loop-one : goal.is_end-requires-in-loop-one
+is_end-requires-in-loop-one c = coming_within (c.loop-one.invariant c.requires.0 c.requires.1).two.from
 
-pub read-requires-in-loop-one : goal.read-requires-in-loop-one
-read-requires-in-loop-one c = stands (c.loop-one.invariant c.requires.0 c.requires.1).two c.if-n-two.false
+pub returns-then-is_end : goal.returns-then-is_end
+returns-then-is_end c = λ t u.
+    let e = ended-both _ _ _ c.is_end-in-loop-one.ensures c.if-is_end.true in
+    sym (second-ends (c.loop-one.invariant t u) (not_ended _ _ _ c.is_end.ensures c.loop-one-test.true) e.0 e.1)
 
-pub returns-then-read : goal.returns-then-read
-returns-then-read c = λ t u. sym (letters-differ (c.loop-one.invariant t u) c.loop-one-test.true c.if-n-two.false c.read.result c.read-in-loop-one.result c.read.ensures c.read-in-loop-one.ensures c.if-read.true)
+pub next-requires : goal.next-requires
+next-requires c = stands (c.loop-one.invariant c.requires.0 c.requires.1).one (not_ended _ _ _ c.is_end.ensures c.loop-one-test.true)
 
-pub next-one-requires : goal.next-one-requires
-next-one-requires c = stands (c.loop-one.invariant c.requires.0 c.requires.1).one c.loop-one-test.true
+pub next-requires-in-loop-one : goal.next-requires-in-loop-one
+next-requires-in-loop-one c = stands (c.loop-one.invariant c.requires.0 c.requires.1).two (not_ended _ _ _ c.is_end-in-loop-one.ensures c.if-is_end.false)
 
-pub next-two-requires : goal.next-two-requires
-next-two-requires c = stands (c.loop-one.invariant c.requires.0 c.requires.1).two c.if-n-two.false
+pub returns-then-next : goal.returns-then-next
+returns-then-next c = λ t u.
+    let e = not_ended _ _ _ c.is_end.ensures c.loop-one-test.true in
+    let f = not_ended _ _ _ c.is_end-in-loop-one.ensures c.if-is_end.false in
+    sym (letters-differ (c.loop-one.invariant t u) e f c.next.result c.next-in-loop-one.result c.next.ensures.letter c.next-in-loop-one.ensures.letter c.if-next.true)
 
 pub loop-one-smaller : goal.loop-one-smaller
 loop-one-smaller c =
-    let x = c.loop-one.invariant c.requires.0 c.requires.1 in
-    let n = c.next-one in
-    omega (arith, (gone x.one c.loop-one-test.true _ _ _ refl refl refl).less, n.ensures.token, n.ensures.nth)
+    let x = (c.loop-one.invariant c.requires.0 c.requires.1).one in
+    let n = c.next.ensures in
+    omega (arith, (gone x (not_ended _ _ _ c.is_end.ensures c.loop-one-test.true) _ _ _ _ refl refl refl refl).less, n.token, n.nth)
 
 pub loop-one-preserved : goal.loop-one-preserved
 loop-one-preserved c = λ t u.
     let x = c.loop-one.invariant t u in
-    let e = c.loop-one-test.true in
-    let f = c.if-n-two.false in
-    comparing-there
-    (comparing-next x e f c.read.result c.read-in-loop-one.result c.read.ensures c.read-in-loop-one.ensures c.if-read.false (gone x.one e _ _ _ refl refl refl) (gone x.two f _ _ _ refl refl refl))
-    c.next-one.ensures.token c.next-one.ensures.nth c.next-two.ensures.token c.next-two.ensures.nth
+    let e = not_ended _ _ _ c.is_end.ensures c.loop-one-test.true in
+    let f = not_ended _ _ _ c.is_end-in-loop-one.ensures c.if-is_end.false in
+    let v = c.next.ensures in
+    let w = c.next-in-loop-one.ensures in
+    comparing-there (comparing-next x e f c.next.result c.next-in-loop-one.result v.letter w.letter c.if-next.false (gone x.one e _ _ _ _ refl refl refl refl) (gone x.two f _ _ _ _ refl refl refl refl)) v.token v.nth v.closes w.token w.nth w.closes
+
+pub is_end-requires-2 : goal.is_end-requires-2
+is_end-requires-2 c = coming_within (c.loop-one.invariant c.requires.0 c.requires.1).two.from
 
 pub returns : goal.returns
-returns c = λ t u. first_ends (c.loop-one.invariant t u) c.loop-one-test.false
+returns c = λ t u.
+    let e = ended-both _ _ _ c.is_end.ensures c.loop-one-test.false in
+    first_ends (c.loop-one.invariant t u) c.is_end-2.result c.is_end-2.ensures e.0 e.1

@@ -33,7 +33,9 @@ pub struct Listed {
 }
 
 impl<'b, 'w> Entries<'b, 'w> {
-    // Whether the candidate repeats the last one: the same function's name and the same text.
+    // Whether the candidate repeats the last one: the same function's name and the same text. Inlined, as is `put_candidate`: as calls
+    // they take a third more instructions where functions of one name share many sites.
+    #[inline(always)]
     fn repeats(&self, next: Candidate, last: Option<Candidate>) -> bool
         requires { SomeReads self.now × ((w : Program) → Reads self.now w → SomeStands self.now.b.now w (Some next) × SomeStands self.now.b.now w last) }
         ensures { (w : Program) (x : Function) (r : Terms) (z : List Named) → Reads self.now w → Stands self.now.b.now w next x r → StandsFor self.now.b.now w last z → result ≡ any (λ y. same_named y (named x r)) z }
@@ -48,6 +50,7 @@ impl<'b, 'w> Entries<'b, 'w> {
     }
 
     // Tells the candidate, unless it repeats the last one: a line of its name and, between `before` and `after`, its text.
+    #[inline(always)]
     pub fn put_candidate(
         &self,
         next: Candidate,

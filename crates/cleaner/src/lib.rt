@@ -1,5 +1,5 @@
 // The entry points: every image and number is answered, and nothing is asked of the caller.
-// That a body has at most 32,768 bytes stays a clause: in a struct it would be opened at each byte. That the
+// That a body has at most 32,768 bytes is a clause of each function that is lent one. That the
 // output is as long as the image is a fact of two lent slices.
 #![tactic(auto)]
 

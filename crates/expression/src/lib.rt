@@ -1,5 +1,5 @@
 // An expression that matches two patterns, written as image records with zero spans.
-// That a body has at most 32,768 bytes stays a clause: in a struct it would be opened at each byte.
+// That a body has at most 32,768 bytes is a clause of each function that is lent one.
 #![tactic(auto)]
 
 mod free;

@@ -1,6 +1,6 @@
 // Functions, sentences and call sites as entries of work: what no round can change.
-// How long body and work are at most, and that a number is below a count, stay clauses: they are of two parameters each, or would be
-// opened at each byte and entry.
+// How long body and work are at most is a clause of each function that is lent them; that a number is below a count stays one, as it
+// is of two parameters.
 #![tactic(auto)]
 
 pub mod classes;

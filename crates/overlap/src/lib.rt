@@ -1,5 +1,5 @@
 // The overlap search on two patterns, which stand at places of one body.
-// That a body has at most 32,768 bytes stays a clause: in a struct it would be opened at each byte. Patterns and fuel go
+// That a body has at most 32,768 bytes is a clause of each function that is lent one. Patterns and fuel go
 // side by side, as the definition of the search takes them, which bounds no fuel.
 #![tactic(auto)]
 

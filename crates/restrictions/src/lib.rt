@@ -1,5 +1,5 @@
 // Call sites and the restrictions that they make, on an image's own bytes.
-// That a body has at most 32,768 bytes stays a clause: in a struct it would be opened at each byte.
+// That a body has at most 32,768 bytes is a clause of each function that is lent one.
 // Marks stay numbers, as in `image::part`.
 #![tactic(auto)]
 

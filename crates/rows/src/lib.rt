@@ -1,5 +1,5 @@
 // The overlap verdict of two patterns by rows: the cost and the verdict of every pair of their tails, from the ends backwards.
-// That a body has at most 32,768 bytes stays a clause: in a struct it would be opened at each byte.
+// That a body has at most 32,768 bytes is a clause of each function that is lent one.
 #![tactic(auto)]
 
 mod numbers;

@@ -13,7 +13,7 @@ sys.path.insert(0, str(TOOLS))
 sys.path.insert(0, str(TOOLS / "figures"))
 
 from images import A, B, E, asked, calls, code, three_letters
-from reader import Bracket, Call, Character, Function, Program, Sentence, Variable, encode
+from reader import Bracket, Call, Character, Function, Identifier, Program, Sentence, Variable, encode
 
 
 class Family(NamedTuple):
@@ -132,6 +132,22 @@ def common_beginnings(count, length):
     return Program([], [calls([[A]]), Function(b"F", [*gone, Sentence([A], [], [])])])
 
 
+def two_spellings(functions, arguments, variables):
+    """Texts that are alike up to their last letter, but every second one begins with an identifier that is spelled as the others' variable is."""
+    names = [Variable("s", three_letters(i)[:2]) for i in range(variables)]
+    first = [Variable("s", b"x"), Identifier(b"s.x")]
+    made = [Function(b"F")] * functions
+    return Program([], [calls([[first[i % 2], *names, code(i)] for i in range(arguments)]), *made])
+
+
+def spelled_beginnings(count, length):
+    """The same of removed texts, which are alike up to their last letter."""
+    same = [Variable("s", b"x")] * length
+    first = [Variable("s", b"x"), Identifier(b"s.x")]
+    gone = [Sentence([first[i % 2], *same, code(i)], [], []) for i in range(count)]
+    return Program([], [calls([[A]]), Function(b"F", [*gone, Sentence([A], [], [])])])
+
+
 def bucket_names(count, buckets=4096):
     """Function names that a fixed hash of 31 a letter puts into few buckets."""
     found, number = [], 0
@@ -167,6 +183,8 @@ FAMILIES = {
     "rounds": Family(lambda: rounds(205, 760), "205 rounds, 760 functions, dead sites at the lists' heads"),
     "report": Family(lambda: long_report(560, 480), "560 removed lines, 480 restrictions"),
     "beginnings": Family(lambda: common_beginnings(285, 8), "285 removed texts with a common beginning"),
+    "spelled": Family(lambda: two_spellings(836, 33, 32), "836 functions of one name, 33 arguments alike but for the spelling of one term and their last letter"),
+    "begun": Family(lambda: spelled_beginnings(285, 7), "285 removed texts alike but for that and their last letter"),
     "bucket": Family(lambda: bucket_names(480), "480 names of one bucket, if names are hashed by 31"),
 }
 

@@ -48,7 +48,8 @@ fn owed_after(m: u8, need: usize) -> usize
     }
 }
 
-// Past so many closes that are owed, from `at` on.
+// Past so many closes that are owed, from `at` on. A call from each place, so that `term_len` stays short.
+#[inline(never)]
 fn past(s: &[u8], at: usize, owing: usize) -> usize
     requires { (at ≤ length s.now) × (owing ≤ 1 + 2 * at) }
     ensures { (drop result s.now ≡ pass owing (drop at s.now)) × ((at ≤ result) × (result ≤ length s.now)) }
@@ -70,14 +71,16 @@ pub fn terms_len(s: &[u8]) -> usize
     past(s, 0, 1)
 }
 
-// The length of the first of the terms at the start of s, 0 at their close.
+// The length of the first of the terms at the start of s, 0 at their close. Inlined: a walk over terms whose mark is known then adds
+// a length, and as calls of this such walks take up to three times the instructions.
+#[inline(always)]
 pub fn term_len(s: &[u8]) -> usize
     requires { TermsAt Mode.result s.now }
     ensures { (m : Mode) (t : TermsAt m s.now) → Passes s.now result (put_terms (tail t.terms) t.rest) }
 {
     match s[0] {
         1 => 13,
-        2..=6 => 10 + usize::from(s[9]),
+        m if m < 7 => 10 + usize::from(s[9]),
         15 => 0,
         m => {
             let w = fields_of(s, 0);

@@ -16,9 +16,6 @@ returns-in-1 c = term_code c.args.s.now c.in-1.is
 pub bounds-s-9 : goal.bounds-s-9
 bounds-s-9 c = let z = term_name c.args.s.now (λ e. omega arith) (omega arith) _ c.requires in omega (arith, z.fits)
 
-pub returns-in-2-to-6 : goal.returns-in-2-to-6
-returns-in-2-to-6 c = rw c.from.ensures (term_name c.args.s.now (λ e. omega arith) (omega arith))
-
 pub returns-in-15 : goal.returns-in-15
 returns-in-15 c = term_close c.args.s.now c.in-15.is
 
@@ -34,6 +31,9 @@ past-requires c =
     (omega (arith, z, c.fields_of-w.ensures.0), omega (arith, c.owed_after-need.ensures.1))
 
 pub returns-in_default : goal.returns-in_default
-returns-in_default c =
+returns-in_default c = rw c.from.ensures (term_name c.args.s.now (λ e. omega arith) (omega arith))
+
+pub returns-in_default-2 : goal.returns-in_default-2
+returns-in_default-2 c =
     term_passes c.args.s.now c.fields_of-w.result (c.owed_after-need.result - 1) c.past.result
     (λ e. omega arith) c.fields_of-w.ensures.0 (ap (λ (n : ℕ). n - 1) c.owed_after-need.ensures.0) c.past.ensures.0 c.past.ensures.1.1

@@ -3,7 +3,7 @@
 // of splits and the bracket pairs: between two of them the heads go forward in both patterns, so that a search within a limit
 // compares at most so many heads as the limit times the shorter pattern.
 // Marks stay numbers, as in `image::part`.
-ghost use Rattle.std.specs.Prelude.{◌≡◌, ◌≤◌, length, Option, IsSome};
+ghost use Rattle.std.specs.Prelude.{◌≡◌, ◌+◌, ◌≤◌, length, Option, IfSome, IsSome};
 ghost use Rattle.program.specs.Limits.{Mode};
 ghost use Rattle.image.specs.Parts.{TermsAt};
 ghost use Rattle.patterns.specs.Search.{absorbing_split, overlap_of_terms, sequence};
@@ -33,7 +33,8 @@ pub const UNLIMITED: Limits = Limits {
 impl Limits {
     // What is left inside one more end or bracket pair, unless a limit is met.
     fn inside(self) -> Option<Limits>
-        ensures { Endless self → result ≡ Some self }
+        ensures endless { Endless self → result ≡ Some self }
+        ensures less { (Endless self → ⊥) → IfSome result (λ m. (m.entries + 1 ≡ self.entries) × (m.deep + 1 ≡ self.deep)) }
     {
         match self {
             Limits { deep: u32::MAX, .. } => Some(self),

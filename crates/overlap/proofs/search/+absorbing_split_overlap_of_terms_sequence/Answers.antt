@@ -31,7 +31,7 @@ absorbing_split-loop-inner-init t c = (omega arith, λ u v. splitting_first c.ar
 
 -- A limit is met.
 pub absorbing_split-returns-in_err-inner-clause-ends : goal.absorbing_split-returns-in_err-inner-clause-ends
-absorbing_split-returns-in_err-inner-clause-ends t c = λ a. not_stopped (c.inside.ensures (c.loop-inner.invariant.2 ∙ a)) c.in_err-inner.was
+absorbing_split-returns-in_err-inner-clause-ends t c = λ a. not_stopped (c.inside.ensures.endless (c.loop-inner.invariant.2 ∙ a)) c.in_err-inner.was
 
 pub absorbing_split-sequence-requires : goal.absorbing_split-sequence-requires
 absorbing_split-sequence-requires t c =
@@ -39,7 +39,7 @@ absorbing_split-sequence-requires t c =
 
 -- An end was not done.
 pub absorbing_split-returns-in_err-t-clause-ends : goal.absorbing_split-returns-in_err-t-clause-ends
-absorbing_split-returns-in_err-t-clause-ends t c = λ a. not_none (c.sequence.ensures.ends (ap (λ (l : Limits). l.deep) (still (c.inside.ensures (c.loop-inner.invariant.2 ∙ a)) c.in_ok-inner.was) ∙ (c.loop-inner.invariant.2 ∙ a))) c.in_err-t.was
+absorbing_split-returns-in_err-t-clause-ends t c = λ a. not_none (c.sequence.ensures.ends (ap (λ (l : Limits). l.deep) (still (c.inside.ensures.endless (c.loop-inner.invariant.2 ∙ a)) c.in_ok-inner.was) ∙ (c.loop-inner.invariant.2 ∙ a))) c.in_err-t.was
 
 pub absorbing_split-returns-then-eq : goal.absorbing_split-returns-then-eq
 absorbing_split-returns-then-eq t c = record {
@@ -104,7 +104,7 @@ overlap_of_terms-bounds-right-0 t c =
 
 -- A limit is met.
 pub overlap_of_terms-returns-in_err-inner-clause-ends : goal.overlap_of_terms-returns-in_err-inner-clause-ends
-overlap_of_terms-returns-in_err-inner-clause-ends t c = λ a. not_stopped (c.inside.ensures a) c.in_err-inner.was
+overlap_of_terms-returns-in_err-inner-clause-ends t c = λ a. not_stopped (c.inside.ensures.endless a) c.in_err-inner.was
 
 pub overlap_of_terms-slice_bounds-sequence-count : goal.overlap_of_terms-slice_bounds-sequence-count
 overlap_of_terms-slice_bounds-sequence-count t c =
@@ -140,7 +140,7 @@ overlap_of_terms-returns-then-right-eq7 t c = record {
       let p = bracket-at x c.if-left-eq7.true in
       let q = bracket-at y c.if-right-eq7.true in
       IfSome_then c.sequence.result (c.sequence.ensures.answers p.inner q.inner) (λ r e. ap (λ (z : Found). z.verdict) e ∙ sym (two-brackets x y p q));
-  ends = λ a. c.sequence.ensures.ends (ap (λ (l : Limits). l.deep) (still (c.inside.ensures (a)) c.in_ok-inner.was) ∙ (a));
+  ends = λ a. c.sequence.ensures.ends (ap (λ (l : Limits). l.deep) (still (c.inside.ensures.endless (a)) c.in_ok-inner.was) ∙ (a));
 }
 
 -- Not both are brackets.

@@ -9,7 +9,8 @@ ghost use Rattle.matching.specs.Took.{Took};
 ghost use Rattle.text.specs.Fill.{limit};
 
 use crate::bindings::{Binding, extend_binding};
-use crate::steps::{Place, behind_variable};
+pub use crate::steps::Place;
+use crate::steps::behind_variable;
 use values::levels::term_end;
 
 // Whether the binding at a place is an `e.` variable's that can take a term more.

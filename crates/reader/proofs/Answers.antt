@@ -71,11 +71,11 @@ module _ (s : List ℕ) (n a f : ℕ) (hl : 12 ≤ length s) (hn : n ≡ length 
           let (w, u, e) = read_fine c q in
           k w e ∙ sym (is-settled ∙ rw u)
 
-      first_off : (c.first ≡ f → ⊥) → Err (refusal 11 0) ≡ checked_of (decode_sized s)
+      pub first_off : (c.first ≡ f → ⊥) → Err (refusal 11 0) ≡ checked_of (decode_sized s)
       unfolding agrees checked_of
       first_off z = settles (λ w e. rw (ne_eqb (to_functions s) (length (put_functions w.functions)) (λ y. z (ap (λ (k : Counts). k.first) e ∙ (sym y ∙ sym (hf ∙ rw hn))))))
 
-      functions-off : {j : ℕ} → j ≡ get16 s (n + 8) → c.first ≡ f → (c.functions ≡ j → ⊥) → Err (refusal 11 0) ≡ checked_of (decode_sized s)
+      pub functions-off : {j : ℕ} → j ≡ get16 s (n + 8) → c.first ≡ f → (c.functions ≡ j → ⊥) → Err (refusal 11 0) ≡ checked_of (decode_sized s)
       unfolding agrees checked_of
       functions-off hj y z =
           settles (λ w e.
@@ -84,7 +84,7 @@ module _ (s : List ℕ) (n a f : ℕ) (hl : 12 ≤ length s) (hn : n ≡ length 
             ne_eqb (function_field s) (length w.functions) (λ x. z (ap (λ (k : Counts). k.functions) e ∙ (sym x ∙ sym (hj ∙ rw hn)))),
           ))
 
-      sentences-off : {j i : ℕ} → j ≡ get16 s (n + 8) → i ≡ get16 s (n + 10) → c.first ≡ f → c.functions ≡ j → (c.sentences ≡ i → ⊥) → Err (refusal 11 0) ≡ checked_of (decode_sized s)
+      pub sentences-off : {j i : ℕ} → j ≡ get16 s (n + 8) → i ≡ get16 s (n + 10) → c.first ≡ f → c.functions ≡ j → (c.sentences ≡ i → ⊥) → Err (refusal 11 0) ≡ checked_of (decode_sized s)
       unfolding agrees checked_of
       sentences-off hj hi y x z =
           settles (λ w e.
@@ -94,7 +94,7 @@ module _ (s : List ℕ) (n a f : ℕ) (hl : 12 ≤ length s) (hn : n ≡ length 
             ne_eqb (sentence_field s) (own_sentence_count w.functions) (λ v. z (ap (λ (k : Counts). k.sentences) e ∙ (sym v ∙ sym (hi ∙ rw hn)))),
           ))
 
-      all-fine : {j i : ℕ} → j ≡ get16 s (n + 8) → i ≡ get16 s (n + 10) → c.first ≡ f → c.functions ≡ j → c.sentences ≡ i → Ok tt ≡ checked_of (decode_sized s)
+      pub all-fine : {j i : ℕ} → j ≡ get16 s (n + 8) → i ≡ get16 s (n + 10) → c.first ≡ f → c.functions ≡ j → c.sentences ≡ i → Ok tt ≡ checked_of (decode_sized s)
       unfolding agrees checked_of
       all-fine hj hi y x z =
           settles (λ w e.

@@ -21,7 +21,7 @@ use Rattle.told.specs.ToldReport.{fallen_from, same_fallen, removed_of, undecide
 use Rattle.told.proofs.History.{there-after}
 use Rattle.text.specs.Counts.{count_line, top_text, graph_text}
 use Rattle.text.specs.declared.writer.Writer.{Writer}
-use Rattle.text.specs.Fill.{filled}
+use Rattle.text.specs.Fill.{filled, Emitted}
 use Rattle.text.specs.Written.{written}
 use Rattle.text.proofs.Written.{both, same}
 use Rattle.meaning.specs.Report.{removed_line, undecided_line, uncovered_line, uncharacterised_line, dispatch_line, last_lines, format_clean_report}
@@ -113,6 +113,11 @@ unwritten v t n h e = (by v.text.now h, ap (λ (k : ℕ). v.filled + k) e)
     by : (s : List ℕ) → length s ≡ 0 → s ≡ filled s v.filled t
     by [] z = sym (filled-empty t v.filled)
     by (x ∷ s) z = absurd (omega (arith, z))
+
+-- So the line of names, if there is one, is emitted by its length.
+pub names_measured : (s : List ℕ) (p : ℕ) (r : CleanReport) (g : Figures) → FiguresOf r g → length s ≡ 0 → Emitted s p (uncharacterised_line r.uncharacterised) (p + g.uncharacterised.at) s
+names_measured [] p r g f none = record { after = ap (λ (n : ℕ). p + n) f.uncharacterised-length; left = sym (filled-empty (uncharacterised_line r.uncharacterised) p) }
+names_measured (x ∷ s) p r g f none = absurd (omega (arith, none))
 
 -- So the lines between the lists and the lists' lengths make up the lists.
 pub lists_measured : (r : CleanReport) (g : Figures) → FiguresOf r g → (v : Writer) {a b c d e : Writer}

@@ -54,7 +54,7 @@ module _ (b : List ℕ) (at : ℕ) (x : SentenceAt (drop at b)) where
     result-room n m l = omega (arith, l, own-length)
 
     module _ {k : ℕ} {old : List ℕ} {n : ℕ} {new : List ℕ} {a : Walk} (z : Collected b (part b (at + i)) k old n new a result-records) where
-      result-end : at + i + a.at ≤ length b
+      pub result-end : at + i + a.at ≤ length b
       result-end = omega (arith, z.fits, part_length b (at + i), place-fits h)
 
       module _ (j : ℕ) (q : Passes (part b at) j (put_conditions x.sentence.conditions (12 ∷ put_terms x.sentence.result x.rest))) where

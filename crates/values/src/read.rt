@@ -1,11 +1,18 @@
 // Whether bytes can be read as an input or as answers: tokens one by one, and brackets by counting them, so that depth is free.
 // Marks stay numbers, as in `image::part`.
-ghost use Rattle.std.specs.Prelude.{◌≡◌, Bool, ◌+◌, ◌<◌, MatchOption};
+ghost use Rattle.std.specs.Prelude.{◌≡◌, Bool, ◌&&◌, ◌+◌, ◌<◌, eqb, MatchOption};
 ghost use Rattle.meaning.specs.Inputs.{input_of, answers_of};
 ghost use Rattle.values.specs.Values.{is_read};
 ghost use Rattle.values.specs.Counting.{depth_after, owed_after};
 
 use crate::tokens::Token;
+
+// Whether the mark m is a close that no bracket opened, where so many are open.
+pub fn is_last_close(m: u8, depth: usize) -> bool
+    ensures { result ≡ (eqb m 15 && eqb depth 0) }
+{
+    m == 15 && depth == 0
+}
 
 // How many brackets are open after the mark m, unless it is a close that none of them opened.
 pub fn depth_after(m: u8, depth: usize) -> Option<usize>

@@ -1,13 +1,11 @@
 // Clean's answers: data/clean, which tools/clean_vectors.py writes, has a record for each, and that
 // script says how a record is laid out.
-use crate::records::{
-    LENT_BYTE, LENT_ENTRY, NO_PART, Part, Question, image_part, is_written, pair,
-};
+use crate::records::{LENT_BYTE, LENT_ENTRY, Part, Question, image_part, is_written, pair};
 use answers::Lengths;
 use program::Refusal;
 
 // A record: the length of the image that follows (0: the image before stays), the lent lengths, the
-// answer, and its cleaned image and report.
+// answer (none, where a field that the stored one does not use is not 0), and its cleaned image and report.
 #[derive(Clone, Copy)]
 pub struct CleanQuestion {
     len: usize,
@@ -16,7 +14,7 @@ pub struct CleanQuestion {
     report: usize,
     cleaned: Part,
     text: Part,
-    expected: Result<Lengths, Refusal>,
+    expected: Option<Result<Lengths, Refusal>>,
 }
 
 // What the entries of work hold after an answer: zero where the image was cleaned, also if the
@@ -46,24 +44,21 @@ fn is_kept_again(cleaned: &[u8]) -> bool {
 }
 
 impl Question<18> for CleanQuestion {
-    fn read(head: &[u8; 18]) -> Option<CleanQuestion> {
+    fn read(head: &[u8; 18]) -> CleanQuestion {
         // The length of a report that no question lends can be a large one.
         let place = u32::from_le_bytes([head[10], head[11], head[12], head[13]]) as usize;
         let output = pair(head[14], head[15]);
         let report = pair(head[16], head[17]);
-        let (cleaned, text, expected) = match (head[8], head[9], place, output, report) {
-            (0, 0, 0, _, _) => {
-                let lengths = Lengths { output, report };
-                (Part::Stays(output), Part::Stays(report), Ok(lengths))
-            }
-            (0, 1, 0, _, _) => {
-                let lengths = Lengths { output, report };
-                (Part::Follows(output), Part::Follows(report), Ok(lengths))
-            }
-            (number, 0, _, 0, 0) => (NO_PART, NO_PART, Refusal::at(number, place)),
-            _ => return None,
+        let (cleaned, text) = match head[9] {
+            1 => (Part::Follows(output), Part::Follows(report)),
+            _ => (Part::Stays(output), Part::Stays(report)),
         };
-        Some(CleanQuestion {
+        let expected = match (head[8], place, output, report) {
+            (0, 0, _, _) => Some(Ok(Lengths { output, report })),
+            (number, _, 0, 0) => Some(Refusal::at(number, place)),
+            _ => None,
+        };
+        CleanQuestion {
             len: pair(head[0], head[1]),
             output: pair(head[2], head[3]),
             work: pair(head[4], head[5]),
@@ -71,7 +66,7 @@ impl Question<18> for CleanQuestion {
             cleaned,
             text,
             expected,
-        })
+        }
     }
 
     fn parts(&self, before: usize) -> [Part; 3] {
@@ -87,11 +82,10 @@ impl Question<18> for CleanQuestion {
         let w = self.work.min(work.len());
         let r = self.report.min(report.len());
         let answer = cleaner::clean(img, &mut output[..o], &mut work[..w], &mut report[..r]);
-        let expected = self.expected;
-        answer == expected
-            && is_work_left(&work[..w], &work[w..], expected)
+        Some(answer) == self.expected
+            && is_work_left(&work[..w], &work[w..], answer)
             && is_written(cleaned, &output)
             && is_written(text, &report)
-            && (expected.is_err() || is_kept_again(cleaned))
+            && (answer.is_err() || is_kept_again(cleaned))
     }
 }

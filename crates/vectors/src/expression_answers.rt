@@ -6,48 +6,50 @@ use answers::Sharing;
 use program::Refusal;
 
 // A record: the length of the image that follows (0: the image before stays), the two sentence
-// numbers, the length of the lent slice, and the answer, whose expression follows.
+// numbers, the length of the lent slice, how many bytes of an expression follow, and the answer: none,
+// where a field that the stored one does not use is not 0, or its verdict stands for nothing.
 #[derive(Clone, Copy)]
 pub struct ExpressionQuestion {
     len: usize,
     first: usize,
     second: usize,
     lent: usize,
-    expected: Result<Sharing, Refusal>,
+    length: usize,
+    expected: Option<Result<Sharing, Refusal>>,
 }
 
 impl Question<16> for ExpressionQuestion {
-    fn read(head: &[u8; 16]) -> Option<ExpressionQuestion> {
+    fn read(head: &[u8; 16]) -> ExpressionQuestion {
         let spent = pair(head[10], head[11]) as u32;
         let place = pair(head[12], head[13]);
         let length = pair(head[14], head[15]);
         let expected = match (head[8], head[9], spent, place, length) {
-            (0, number, _, 0, _) => {
-                let verdict = stored_verdict(number)?;
+            (0, number, _, 0, _) => stored_verdict(number).map(|verdict| {
                 Ok(Sharing {
                     verdict,
                     spent,
                     length,
                 })
-            }
-            (number, 0, 0, _, 0) => Refusal::at(number, place),
-            _ => return None,
+            }),
+            (number, 0, 0, _, 0) => Some(Refusal::at(number, place)),
+            _ => None,
         };
-        Some(ExpressionQuestion {
+        ExpressionQuestion {
             len: pair(head[0], head[1]),
             first: sentence_number(pair(head[2], head[3])),
             second: sentence_number(pair(head[4], head[5])),
             lent: pair(head[6], head[7]),
+            length,
             expected,
-        })
+        }
     }
 
     fn parts(&self, before: usize) -> [Part; 3] {
-        let expression = match self.expected {
-            Ok(c) => Part::Follows(c.length),
-            Err(_) => NO_PART,
-        };
-        [image_part(self.len, before), expression, NO_PART]
+        [
+            image_part(self.len, before),
+            Part::Follows(self.length),
+            NO_PART,
+        ]
     }
 
     // Nothing but the expression may be written.
@@ -55,6 +57,6 @@ impl Question<16> for ExpressionQuestion {
         let mut lent = [LENT_BYTE; 40960];
         let n = self.lent.min(lent.len());
         let answer = cleaner::overlap_expression(img, self.first, self.second, &mut lent[..n]);
-        answer == self.expected && is_written(text, &lent)
+        Some(answer) == self.expected && is_written(text, &lent)
     }
 }

@@ -15,17 +15,17 @@ pub struct ImageQuestion {
 }
 
 impl Question<8> for ImageQuestion {
-    fn read(head: &[u8; 8]) -> Option<ImageQuestion> {
+    fn read(head: &[u8; 8]) -> ImageQuestion {
         let expected = match (head[5], pair(head[6], head[7])) {
             (0, 0) => Ok(()),
             (number, place) => Refusal::at(number, place),
         };
-        Some(ImageQuestion {
+        ImageQuestion {
             len: pair(head[0], head[1]),
             position: pair(head[2], head[3]),
             value: head[4],
             expected,
-        })
+        }
     }
 
     fn parts(&self, before: usize) -> [Part; 3] {

@@ -46,10 +46,7 @@ fn replay<const N: usize, Q: Question<N>, R: Read>(file: &mut R) -> io::Result<R
             return Ok(done);
         }
         done.asked = asked;
-        let Some(q) = Q::read(&head) else {
-            done.first_wrong = done.first_wrong.or(Some(asked));
-            return Ok(done);
-        };
+        let q = Q::read(&head);
         let [image, cleaned, text] = q.parts(before);
         before = read_part(file, &mut img, image)?;
         let o = read_part(file, &mut output, cleaned)?;

@@ -12,18 +12,14 @@ pub struct NameQuestion {
 }
 
 impl Question<4> for NameQuestion {
-    fn read(head: &[u8; 4]) -> Option<NameQuestion> {
-        let equal = match head[2] {
-            0 => false,
-            1 => true,
-            _ => return None,
-        };
+    fn read(head: &[u8; 4]) -> NameQuestion {
+        let equal = head[2] == 1;
         let compared = usize::from(head[3]);
-        Some(NameQuestion {
+        NameQuestion {
             first: usize::from(head[0]),
             second: usize::from(head[1]),
             expected: NameComparison { equal, compared },
-        })
+        }
     }
 
     fn parts(&self, _before: usize) -> [Part; 3] {

@@ -6,13 +6,14 @@ use patterns::Verdict;
 use program::Refusal;
 
 // A record: the length of the image that follows (0: the image before stays), the two sentence
-// numbers, and the answer.
+// numbers, and the answer: none, where a field that the stored one does not use is not 0, or its
+// verdict stands for nothing, since no answer is that.
 #[derive(Clone, Copy)]
 pub struct OverlapQuestion {
     len: usize,
     first: usize,
     second: usize,
-    expected: Result<Comparison, Refusal>,
+    expected: Option<Result<Comparison, Refusal>>,
 }
 
 // A verdict as stored: they are numbered in document 01's order.
@@ -31,23 +32,22 @@ pub fn sentence_number(stored: usize) -> usize {
 }
 
 impl Question<12> for OverlapQuestion {
-    fn read(head: &[u8; 12]) -> Option<OverlapQuestion> {
+    fn read(head: &[u8; 12]) -> OverlapQuestion {
         let spent = pair(head[8], head[9]) as u32;
         let place = pair(head[10], head[11]);
         let expected = match (head[6], head[7], spent, place) {
             (0, number, _, 0) => {
-                let verdict = stored_verdict(number)?;
-                Ok(Comparison { verdict, spent })
+                stored_verdict(number).map(|verdict| Ok(Comparison { verdict, spent }))
             }
-            (number, 0, 0, _) => Refusal::at(number, place),
-            _ => return None,
+            (number, 0, 0, _) => Some(Refusal::at(number, place)),
+            _ => None,
         };
-        Some(OverlapQuestion {
+        OverlapQuestion {
             len: pair(head[0], head[1]),
             first: sentence_number(pair(head[2], head[3])),
             second: sentence_number(pair(head[4], head[5])),
             expected,
-        })
+        }
     }
 
     fn parts(&self, before: usize) -> [Part; 3] {
@@ -55,6 +55,6 @@ impl Question<12> for OverlapQuestion {
     }
 
     fn is_answered(&self, img: &mut [u8], _output: &[u8], _report: &[u8]) -> bool {
-        cleaner::overlap(img, self.first, self.second) == self.expected
+        Some(cleaner::overlap(img, self.first, self.second)) == self.expected
     }
 }

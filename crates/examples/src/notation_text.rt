@@ -24,17 +24,17 @@ impl Mode {
     }
 }
 
-// The byte at i, 0 past the end: a length or a count that is cut off is 0 to each caller, and an Option would only be opened there.
+// The byte at i, 0 past the end: what is cut off is 0 to each caller, and an Option would only be opened there.
 fn byte_at(s: &[u8], i: usize) -> u8 {
     s.get(i).copied().unwrap_or(0)
 }
 
 // The number in the two bytes at p, which is enough for a place of a text.
-fn place_at(b: &[u8], p: usize) -> Option<usize>
+fn place_at(b: &[u8], p: usize) -> usize
     requires { p ≤ 40000 }
-    ensures { IfSome result (λ n. n < 65536) }
+    ensures { result < 65536 }
 {
-    Some(usize::from(u16::from_le_bytes([*b.get(p)?, *b.get(p + 1)?])))
+    usize::from(u16::from_le_bytes([byte_at(b, p), byte_at(b, p + 1)]))
 }
 
 // Where the next name of the text begins, from q on, with a letter or a digit.
@@ -58,14 +58,15 @@ fn name_end(b: &[u8], at: usize, t: &[u8], q: usize, lead: usize) -> Option<usiz
     requires { (at ≤ 33000) × (q ≤ length t.now) × (length t.now ≤ 32768) × (lead ≤ 2) }
     ensures { IfSome result (λ n. n ≤ length t.now) }
 {
-    let n = usize::from(*b.get(at)?);
-    let name = b.get(at + 1..at + 1 + n)?;
-    let from = next_name(t, q)? + lead;
-    if t.get(from..from + n)? == name {
-        Some(from + n)
-    } else {
-        None
+    let n = usize::from(byte_at(b, at));
+    let from = next_name(t, q).unwrap_or(t.len()) + lead;
+    let name = t.get(from..from + n)?;
+    for k in 0..n {
+        if byte_at(b, at + 1 + k) != name[k] {
+            return None;
+        }
     }
+    Some(from + n)
 }
 
 // The same of a character, where its span says, behind a quote or another character.
@@ -73,14 +74,14 @@ fn character_end(b: &[u8], p: usize, t: &[u8], q: usize) -> Option<usize>
     requires { (p ≤ 32768) × (q ≤ length t.now) × (length t.now ≤ 32768) }
     ensures { IfSome result (λ n. n ≤ length t.now) }
 {
-    let start = place_at(b, p + 1)?;
+    let start = place_at(b, p + 1);
     let at = if *t.get(start)? == b'\'' {
         start + 1
     } else {
         start
     };
     let is_next = next_name(t, q).is_none_or(|n| at <= n);
-    if is_next && t.get(at)? == b.get(p + 9)? {
+    if is_next && *t.get(at)? == byte_at(b, p + 9) {
         Some(at + 1)
     } else {
         None
